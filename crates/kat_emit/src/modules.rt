@@ -1,4 +1,8 @@
 //! A module: what is to be written of a design, whatever the language.
+ghost use Rattle.std.specs.Prelude.{◌≡◌, IfOk, map};
+ghost use Rattle.kat_design.specs.Designs.{component_form};
+ghost use Rattle.kat_emit.specs.Statements.{part_form};
+
 use crate::leaves::push_name;
 use crate::lines::{Lines, read_lines};
 use crate::parts::{Part, part_of};
@@ -38,7 +42,9 @@ pub fn module_of<'a>(
     ty: &'a SeqType,
     design: &'a Design,
     relation: &Relation,
-) -> Result<Module<'a>, AllocError> {
+) -> Result<Module<'a>, AllocError>
+    ensures { IfOk result (λ made. map part_form made.parts.items ≡ map component_form design.now.components) }
+{
     let mut word = String::new(alloc);
     push_name(alloc, ty.name, &mut word)?;
     Ok(Module {
@@ -57,7 +63,9 @@ fn parts_of<'a>(
     ty: &SeqType,
     design: &'a Design,
     relation: &Relation,
-) -> Result<Vec<Part<'a>>, AllocError> {
+) -> Result<Vec<Part<'a>>, AllocError>
+    ensures { IfOk result (λ parts. map part_form parts.items ≡ map component_form design.now.components) }
+{
     let conjuncts = relation.conjuncts.as_slice();
     let components = design.components.as_slice();
     let names = component_names(alloc, ty, conjuncts, components)?;

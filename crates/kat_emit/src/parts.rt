@@ -1,4 +1,8 @@
 //! The parts of a module: the components of a design, with names.
+ghost use Rattle.std.specs.Prelude.{◌≡◌, IfOk};
+ghost use Rattle.kat_design.specs.Designs.{component_form};
+ghost use Rattle.kat_emit.specs.Statements.{part_form};
+
 use crate::leaves::leaf_words;
 use kat_design::{Component, Kind, kinds_of};
 use kat_num::{Sort, Value};
@@ -98,7 +102,9 @@ pub(crate) fn part_of<'a>(
     place: usize,
     component: &'a Component,
     name: &[u8],
-) -> Result<Part<'a>, AllocError> {
+) -> Result<Part<'a>, AllocError>
+    ensures { IfOk result (λ part. part_form part ≡ component_form component.now) }
+{
     let kinds = part_kinds(alloc, component)?;
     let leaves = leaf_words(alloc, ops, component, &kinds)?;
     Ok(Part {

@@ -1,4 +1,8 @@
 //! What members do, as statements.
+ghost use Rattle.std.specs.Prelude.{◌≡◌, ◌++◌, [], IfOk, map, option_map};
+ghost use Rattle.kat_design.specs.Designs.{component_form};
+ghost use Rattle.kat_emit.specs.Statements.{all_changed, all_checked, all_grown, change_of, changed, grown, growth_of, part_form, putting, stated, statements_of};
+
 use crate::parts::Part;
 use kat_design::{Ask, Component, Leaf};
 use kat_num::Items;
@@ -40,37 +44,109 @@ pub enum Statement<'a> {
 }
 
 /// What an operation does that has a number and so many parameters: first all that can be refused, then what changes the replica.
+#[tactic(auto, using(crate::proofs::Listing::one_stated))]
 pub fn operation_statements<'a>(
     alloc: Global,
     parts: &[Part<'a>],
     op: usize,
     params: usize,
-) -> Result<Vec<Statement<'a>>, AllocError> {
+) -> Result<Vec<Statement<'a>>, AllocError>
+    ensures { IfOk result (λ statements. map stated statements.items ≡ statements_of (map part_form parts.now) op params) }
+{
     let mut statements = Vec::new(alloc);
-    for param in 0..params {
-        statements.push(Statement::Check { param })?;
-    }
+    push_checks(params, &mut statements)?;
     statements.push(Statement::Tick)?;
-    for (place, part) in parts.iter().enumerate() {
-        if let Some((key, weight)) = weight_of(part.component, op) {
-            statements.push(Statement::Grow {
-                part: place,
-                key,
-                weight,
-            })?;
-        }
-    }
-    for (place, part) in parts.iter().enumerate() {
-        if let Some(change) = change_of(part.component, place, op) {
-            statements.push(change)?;
-        }
-    }
+    push_growths(parts, op, &mut statements)?;
+    push_changes(parts, op, &mut statements)?;
     statements.push(Statement::Tock)?;
     Ok(statements)
 }
 
+/// Appends the checks of so many arguments.
+#[tactic(auto, using(crate::proofs::Listing::one_stated))]
+fn push_checks(params: usize, into: &mut Vec<Statement<'_>>) -> Result<(), AllocError>
+    ensures { IfOk result (λ u. map stated into.new.items ≡ map stated into.old.items ++ all_checked 0 params) }
+{
+    for param in 0..params {
+        into.push(Statement::Check { param })?;
+    }
+    Ok(())
+}
+
+/// Appends the sums that an operation lets grow.
+fn push_growths<'a>(
+    parts: &[Part<'a>],
+    op: usize,
+    into: &mut Vec<Statement<'a>>,
+) -> Result<(), AllocError>
+    ensures { IfOk result (λ u. map stated into.new.items ≡ map stated into.old.items ++ all_grown 0 (map part_form parts.now) op) }
+{
+    for (place, part) in parts.iter().enumerate() {
+        push_growth(part.component, place, op, into)?;
+    }
+    Ok(())
+}
+
+/// Appends the sum of a component with this number that an operation lets grow, if there is one.
+#[tactic(auto, using(crate::proofs::Listing::one_stated))]
+fn push_growth(
+    component: &Component,
+    place: usize,
+    op: usize,
+    into: &mut Vec<Statement<'_>>,
+) -> Result<(), AllocError>
+    ensures { IfOk result (λ u. map stated into.new.items ≡ map stated into.old.items ++ grown place (growth_of (component_form component.now) op)) }
+{
+    match weight_of(component, op) {
+        Some((key, weight)) => {
+            into.push(Statement::Grow {
+                part: place,
+                key,
+                weight,
+            })?;
+            Ok(())
+        }
+        None => Ok(()),
+    }
+}
+
+/// Appends what an operation changes.
+fn push_changes<'a>(
+    parts: &[Part<'a>],
+    op: usize,
+    into: &mut Vec<Statement<'a>>,
+) -> Result<(), AllocError>
+    ensures { IfOk result (λ u. map stated into.new.items ≡ map stated into.old.items ++ all_changed 0 (map part_form parts.now) op) }
+{
+    for (place, part) in parts.iter().enumerate() {
+        push_change(part.component, place, op, into)?;
+    }
+    Ok(())
+}
+
+/// Appends what an operation changes in a component with this number, if that is something.
+#[tactic(auto, using(crate::proofs::Listing::one_stated))]
+fn push_change<'a>(
+    component: &'a Component,
+    place: usize,
+    op: usize,
+    into: &mut Vec<Statement<'a>>,
+) -> Result<(), AllocError>
+    ensures { IfOk result (λ u. map stated into.new.items ≡ map stated into.old.items ++ changed (change_of place (component_form component.now) op)) }
+{
+    match change_of(component, place, op) {
+        Some(change) => {
+            into.push(change)?;
+            Ok(())
+        }
+        None => Ok(()),
+    }
+}
+
 /// What an operation adds to the replica's own sum in a component, unless that is always 0, and at which key.
-fn weight_of(component: &Component, op: usize) -> Option<(Option<u32>, Leaf)> {
+fn weight_of(component: &Component, op: usize) -> Option<(Option<u32>, Leaf)>
+    ensures { result ≡ growth_of (component_form component.now) op }
+{
     let (key, weight) = match component {
         Component::Tally { effects } => match effects.as_slice().get(op) {
             Some(Some(weight)) => (None, *weight),
@@ -89,7 +165,9 @@ fn weight_of(component: &Component, op: usize) -> Option<(Option<u32>, Leaf)> {
 }
 
 /// What an operation changes in a component with this number, unless that is nothing.
-fn change_of<'a>(component: &'a Component, part: usize, op: usize) -> Option<Statement<'a>> {
+fn change_of<'a>(component: &'a Component, part: usize, op: usize) -> Option<Statement<'a>>
+    ensures { option_map stated result ≡ change_of part (component_form component.now) op }
+{
     match component {
         Component::Cell { effects, .. } => put_of(
             part,
@@ -112,7 +190,9 @@ fn change_of<'a>(component: &'a Component, part: usize, op: usize) -> Option<Sta
 }
 
 /// What puts these leaves, unless that changes nothing: `false` joined to a truth value.
-fn put_of(part: usize, key: Option<u32>, leaves: &Items<Leaf>) -> Option<Statement<'_>> {
+fn put_of(part: usize, key: Option<u32>, leaves: &Items<Leaf>) -> Option<Statement<'_>>
+    ensures { option_map stated result ≡ putting part key leaves.now }
+{
     match leaves.as_slice() {
         [Leaf::False] => None,
         leaves => Some(Statement::Put { part, key, leaves }),

@@ -33,8 +33,9 @@ use Rattle.kat_design.proofs.GivenLeaves.{gives_leaves}
 use Rattle.kat_replica.specs.Suiting.{GivesLeaves, part_with, parts_with, table_with}
 use Rattle.kat_replica.proofs.Filled.{same_form, table_form}
 use Rattle.kat_step.proofs.Given.{matched_effect}
-use Rattle.kat_emit_laws.specs.Statements.{Stated, all_changed, cell_change, change_of, changed, growth_of, is_vain, is_zero, puts, set_change, sums_change, table_change, tallies_growth, tally_growth}
+use Rattle.kat_emit.specs.Statements.{Stated, cell_change, change_of, growth_of, is_vain, is_zero, puts, set_change, sums_change, table_change, tallies_growth, tally_growth}
 use Rattle.kat_emit_laws.specs.Meanings.{done_at, doing, runs, with_inserted, with_kept, with_own, with_own_at, with_put}
+use Rattle.kat_emit_laws.proofs.Followed.{all_changed, changed}
 use Rattle.kat_emit_laws.proofs.Growths.{Held, HeldAt}
 use Rattle.kat_emit_laws.proofs.Owned.{own_grown, own_grown_at}
 use Rattle.kat_emit_laws.proofs.Vain.{vain_cell, vain_is, vain_shape, vain_table, zero_is}

@@ -23,8 +23,9 @@ use Rattle.kat_node.specs.Nodes.{AreSums, IsEntry, IsPart, IsSum}
 use Rattle.kat_step.specs.Limits.{passes_in, passes_limit, tallies_pass, tally_passes}
 use Rattle.kat_step.specs.declared.steps.TheConstants.{SUM_LIMIT}
 use Rattle.kat_step.proofs.Growing.{at_key_sums, found_has}
-use Rattle.kat_emit_laws.specs.Statements.{Stated, all_grown, grown, grows, growth_of, is_zero, tallies_growth, tally_growth, weighing}
+use Rattle.kat_emit.specs.Statements.{Stated, grows, growth_of, is_zero, tallies_growth, tally_growth, weighing}
 use Rattle.kat_emit_laws.specs.Meanings.{Doing, Ending, and_then, doing, ending_of, full, goes, if_sum, own_sum, refused, runs, with_sum}
+use Rattle.kat_emit_laws.proofs.Followed.{all_grown, grown}
 use Rattle.kat_emit_laws.proofs.Vain.{zero_is}
 
 -- the sums of a state file are within the limit

@@ -1,3 +1,4 @@
+pub mod Followed
 pub mod Owned
 pub mod Vain
 pub mod Growths

@@ -12,7 +12,7 @@ use Rattle.kat_shape.proofs.Filling.{kinds_long}
 use Rattle.kat_design.specs.Denotations.{alone_at}
 use Rattle.kat_design.specs.declared.designs.Leaf.{Leaf}
 use Rattle.kat_design.specs.declared.designs.Leaf.TheVariants as leaf
-use Rattle.kat_emit_laws.specs.Statements.{is_vain, is_zero}
+use Rattle.kat_emit.specs.Statements.{is_vain, is_zero}
 
 pub zero_is : (w : Leaf) → is_zero w ≡ true → w ≡ leaf.Zero
 zero_is leaf.Zero e = refl

@@ -25,8 +25,9 @@ use Rattle.kat_step.specs.Steps.{done_by}
 use Rattle.kat_step.specs.declared.error.StepError.{StepError}
 use Rattle.kat_step.specs.declared.error.StepError.TheVariants.{TooLarge, FullState}
 use Rattle.kat_step.proofs.Acting.{action_fits}
-use Rattle.kat_emit_laws.specs.Statements.{Stated, all_changed, all_grown, checked, ticks, tocks}
+use Rattle.kat_emit.specs.Statements.{Stated, ticks, tocks}
 use Rattle.kat_emit_laws.specs.Meanings.{Doing, Ending, Outcome, and_then, begun, doing, emitted, ending_of, full, goes, late, refused, runs, stepped, unchanged, wrong}
+use Rattle.kat_emit_laws.proofs.Followed.{all_changed, all_grown, checked, followed}
 use Rattle.kat_emit_laws.proofs.Growths.{grow_all, stand_all}
 use Rattle.kat_emit_laws.proofs.Changes.{change_all}
 
@@ -128,9 +129,13 @@ abbrev tick_next : (ℕ → Bool) → DesignForm → Node → Call → Bool → 
 tick_next passes d node call b =
     and_then (cond b (refused late (begun node call)) (goes (doing node.replica.clock (parts_of node) (done_by node call) no_sums))) (λ (later : Doing). runs passes (growing d call) later)
 
+emitted_is : (passes : ℕ → Bool) (d : DesignForm) (node : Node) (call : Call) → emitted passes d node call ≡ ending_of (runs passes (checked 0 (length call.args) (ticks ∷ growing d call)) (begun node call))
+emitted_is passes d node call = ap (λ (list : List Stated). ending_of (runs passes list (begun node call))) (followed d.components call.item (length call.args))
+
 ticked : (passes : ℕ → Bool) (d : DesignForm) (node : Node) (call : Call) (b : Bool) → AllPass passes call → is_late node ≡ b → emitted passes d node call ≡ ending_of (tick_next passes d node call b)
 ticked passes d node call b all e =
-    ap ending_of (checks_pass passes 0 (length call.args) (ticks ∷ growing d call) (begun node call) (λ k l m. all k (inside_all (length call.args) k m)) ∙ ap (tick_next passes d node call) e)
+    emitted_is passes d node call
+    ∙ ap ending_of (checks_pass passes 0 (length call.args) (ticks ∷ growing d call) (begun node call) (λ k l m. all k (inside_all (length call.args) k m)) ∙ ap (tick_next passes d node call) e)
 
 abbrev step_ending : ℕ → List Part → Ending
 step_ending clock parts = record { refusal = None; clock = clock; parts = parts }
@@ -173,4 +178,5 @@ inside_params n k l = omega arith
 pub wrong_means : (d : DesignForm) (node : Node) (call : Call) (passes : ℕ → Bool) (param : ℕ) → param < length call.args → passes param ≡ false → ((earlier : ℕ) → earlier < param → passes earlier ≡ true)
     → emitted passes d node call ≡ unchanged node (wrong param)
 wrong_means d node call passes param inside fails all =
-    ap ending_of (checks_fail passes 0 (length call.args) param (ticks ∷ growing d call) (begun node call) (at_first param) (inside_params (length call.args) param inside) fails (λ j l m. all j m))
+    emitted_is passes d node call
+    ∙ ap ending_of (checks_fail passes 0 (length call.args) param (ticks ∷ growing d call) (begun node call) (at_first param) (inside_params (length call.args) param inside) fails (λ j l m. all j m))

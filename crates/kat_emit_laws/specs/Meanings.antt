@@ -24,7 +24,7 @@ use Rattle.kat_node.specs.Packets.{parts_of}
 use Rattle.kat_node.specs.declared.nodes.Node.{Node}
 use Rattle.kat_step.specs.Steps.{with_action}
 use Rattle.kat_step.specs.declared.steps.TheConstants.{SUM_LIMIT}
-use Rattle.kat_emit_laws.specs.Statements.{Stated, checks, ticks, grows, keeps, puts, inserts, tocks, statements_of}
+use Rattle.kat_emit.specs.Statements.{Stated, checks, ticks, grows, keeps, puts, inserts, tocks, statements_of}
 
 -- why an operation is refused: an argument, its time, or a sum
 pub data Refusal : Type 0 where

@@ -1,11 +1,14 @@
 -- Used inside only.
 -- The statements of an operation, as plain data, and which ones an operation has.
-use Rattle.std.specs.Prelude.{ℕ, zero, suc, Bool, true, false, List, [], ◌∷◌, Option, None, Some, slice_get, if◌then◌else◌}
+use Rattle.std.specs.Prelude.{ℕ, zero, suc, Bool, true, false, List, [], ◌∷◌, ◌++◌, Option, None, Some, slice_get, if◌then◌else◌}
 use Rattle.std.specs.Option.{option_flatten}
-use Rattle.kat_design.specs.Designs.{ComponentForm}
+use Rattle.kat_design.specs.Designs.{ComponentForm, component_form}
 use Rattle.kat_design.specs.Designs.ComponentForm.{a_cell, a_table, a_set, a_tally, tallies}
 use Rattle.kat_design.specs.declared.designs.Leaf.{Leaf}
 use Rattle.kat_design.specs.declared.designs.Leaf.TheVariants as leaf
+use Rattle.kat_emit.specs.declared.parts.Part.{Part}
+use Rattle.kat_emit.specs.declared.statements.Statement.{Statement}
+use Rattle.kat_emit.specs.declared.statements.Statement.TheVariants as statement
 
 -- a statement; parts, and parameters that are keys, are told by their numbers
 pub data Stated : Type 0 where
@@ -16,6 +19,19 @@ pub data Stated : Type 0 where
   puts : (place : ℕ) (key : Option ℕ) (leaves : List Leaf) → Stated
   inserts : (place key : ℕ) → Stated
   tocks : Stated
+
+-- what a statement of the program says, and the component of a part
+abbrev pub stated : Statement → Stated
+stated (statement.Check param) = checks param
+stated statement.Tick = ticks
+stated (statement.Grow place key weight) = grows place key weight
+stated (statement.Keep place key) = keeps place key
+stated (statement.Put place key leaves) = puts place key leaves.now
+stated (statement.Insert place key) = inserts place key
+stated statement.Tock = tocks
+
+abbrev pub part_form : Part → ComponentForm
+part_form part = component_form part.component.now
 
 -- the effect of the operation with a number, if it has one
 abbrev pub effect_at : {A : Type 0} → List (Option A) → ℕ → Option A
@@ -77,32 +93,30 @@ change_of place (a_set key effects) op = set_change place (effect_at effects op)
 change_of place (a_tally effects) op = sums_change place (tally_growth (effect_at effects op))
 change_of place (tallies key effects) op = sums_change place (tallies_growth (effect_at effects op))
 
--- so many arguments are checked from this one on, followed by more
-abbrev pub checked : ℕ → ℕ → List Stated → List Stated
-checked param zero more = more
-checked param (suc params) more = checks param ∷ checked (suc param) params more
+-- so many arguments are checked from this one on
+abbrev pub all_checked : ℕ → ℕ → List Stated
+all_checked param zero = []
+all_checked param (suc params) = checks param ∷ all_checked (suc param) params
 
--- a sum grows, if one does, followed by more
-abbrev pub grown : ℕ → Option (Option ℕ × Leaf) → List Stated → List Stated
-grown place None more = more
-grown place (Some growth) more = grows place growth.0 growth.1 ∷ more
+-- a sum grows, if one does, and so of the components from a place on
+abbrev pub grown : ℕ → Option (Option ℕ × Leaf) → List Stated
+grown place None = []
+grown place (Some growth) = grows place growth.0 growth.1 ∷ []
 
--- the sums grow of the components from this place on, followed by more
-abbrev pub all_grown : ℕ → List ComponentForm → ℕ → List Stated → List Stated
-all_grown place [] op more = more
-all_grown place (component ∷ components) op more = grown place (growth_of component op) (all_grown (suc place) components op more)
+abbrev pub all_grown : ℕ → List ComponentForm → ℕ → List Stated
+all_grown place [] op = []
+all_grown place (component ∷ components) op = grown place (growth_of component op) ++ all_grown (suc place) components op
 
--- a statement, if there is one, followed by more
-abbrev pub changed : Option Stated → List Stated → List Stated
-changed None more = more
-changed (Some change) more = change ∷ more
+-- a statement, if there is one, and so what changes of the components from a place on
+abbrev pub changed : Option Stated → List Stated
+changed None = []
+changed (Some change) = change ∷ []
 
--- what changes of the components from this place on, followed by more
-abbrev pub all_changed : ℕ → List ComponentForm → ℕ → List Stated → List Stated
-all_changed place [] op more = more
-all_changed place (component ∷ components) op more = changed (change_of place component op) (all_changed (suc place) components op more)
+abbrev pub all_changed : ℕ → List ComponentForm → ℕ → List Stated
+all_changed place [] op = []
+all_changed place (component ∷ components) op = changed (change_of place component op) ++ all_changed (suc place) components op
 
 -- the statements of an operation with so many parameters: first all that can be refused, then what changes the replica
 abbrev pub statements_of : List ComponentForm → ℕ → ℕ → List Stated
 statements_of components op params =
-    checked 0 params (ticks ∷ all_grown 0 components op (all_changed 0 components op (tocks ∷ [])))
+    all_checked 0 params ++ ticks ∷ (all_grown 0 components op ++ (all_changed 0 components op ++ tocks ∷ []))
