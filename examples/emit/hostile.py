@@ -43,7 +43,15 @@ COMMENTS = [
     "*/ ends a comment, and so does this: */ or */*/", '""" ends a docstring, \'\'\' too', "a backslash at the end \\", "a quote at the end \"",
     "\u2028 ends a line, \u202e turns it, \u0000 is nothing, \u00e9 is a letter, \u2603 is none", "${this} `and` {that} %s {{}} $0 ~ $1",
     "//! /// /* # -- <!-- -->", "a line that is very long: " + "word " * 60, "", "@ts-ignore type: ignore noqa #[allow(x)]",
+    "[a link] and [another](one) and [one]: more [^1] ![x] [`x`]", "<b> a tag <script> Vec<T> <http://x.y>, see https://example.org/a_b.",
+    "`code` and (`more code`), `` ` ``", "an accent ` alone", "``` rust", "`a``b`[c]",
 ]  # fmt: skip
+# what begins a list, a quote, a title, a block of code, a test or an instruction to a tool, if a line of a comment begins with it
+MARKS = """- + * > >>> # ## ~~~ ~~~~rust = === --- _ *** | |---|---| :---|---: 1. 1) <div> <!-- [x]: [^1]: @ts-expect-error @deprecated type: type:ignore
++build :param -5 +x""".split()
+COMMENTS += [f"{mark} at the start" for mark in MARKS]
+# each after a line that is full
+COMMENTS += [" ".join(word for mark in MARKS[start : start + 4] for word in ("w" * 108, mark, "more")) for start in range(0, len(MARKS), 4)]
 KEYS, NUMBERS = ["int", "nat", "name"], ["int", "nat"]
 
 

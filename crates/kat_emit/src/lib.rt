@@ -11,6 +11,7 @@ mod lines;
 mod modules;
 mod parts;
 mod reads;
+mod remarks;
 mod statements;
 
 pub use cases::{Case, push_cased};
@@ -19,4 +20,5 @@ pub use lines::{Lines, read_lines};
 pub use modules::{Module, module_of};
 pub use parts::{Form, Part, is_chain};
 pub use reads::{ask_reads, has_wide, is_wide, statement_reads};
+pub use remarks::begins_markup;
 pub use statements::{Lookup, Statement, lookups, operation_statements};

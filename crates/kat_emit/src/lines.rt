@@ -1,4 +1,5 @@
 //! What the lines of a type file say, for the comments of a module.
+use crate::remarks::{open_code, push_plain, push_remark};
 use std::alloc::{AllocError, Global};
 
 /// What a type file says of the type, and of its fields, operations and queries in their order: the comment above a line and the one
@@ -21,7 +22,7 @@ impl Drop for Lines {
     }
 }
 
-/// Reads the lines of a type file. In what they say, each character that no comment of a language should have is replaced.
+/// Reads the lines of a type file. What they say is text for a comment in each language, and no markup of its documentation.
 pub fn read_lines(alloc: Global, text: &str) -> Result<Lines, AllocError> {
     let mut lines = Lines {
         ty: String::new(alloc),
@@ -48,9 +49,9 @@ fn push_line(
         if remark.is_empty() {
             comment.clear();
         }
-        return push_plain(remark, comment);
+        return push_remark(remark, comment);
     };
-    push_plain(remark, comment)?;
+    push_remark(remark, comment)?;
     let said = take_text(alloc, comment)?;
     push_said(
         head,
@@ -95,10 +96,10 @@ fn push_said(
 /// Appends the form of a field.
 fn push_field(rest: &str, into: &mut String) -> Result<(), AllocError> {
     let (name, form) = halves(rest, ':');
-    push_plain("`", into)?;
-    push_plain_on(name, into)?;
+    open_code(into)?;
+    push_plain(name, into)?;
     into.push_str(": ")?;
-    push_plain_on(form, into)?;
+    push_plain(form, into)?;
     into.push_str("`.")
 }
 
@@ -106,10 +107,10 @@ fn push_field(rest: &str, into: &mut String) -> Result<(), AllocError> {
 fn push_operation(rest: &str, into: &mut String) -> Result<(), AllocError> {
     let (_, ranked) = halves(rest, ')');
     let (rank, right) = halves(ranked, ':');
-    push_plain("`", into)?;
-    push_plain_on(right, into)?;
+    open_code(into)?;
+    push_plain(right, into)?;
     into.push_str("`, rank ")?;
-    push_plain_on(rank.strip_prefix("rank").unwrap_or(rank).trim(), into)?;
+    push_plain(rank.strip_prefix("rank").unwrap_or(rank).trim(), into)?;
     into.push('.')
 }
 
@@ -117,8 +118,12 @@ fn push_operation(rest: &str, into: &mut String) -> Result<(), AllocError> {
 fn push_query(rest: &str, into: &mut String) -> Result<(), AllocError> {
     let (_, sorted) = halves(rest, ')');
     let (_, right) = halves(sorted, '=');
-    push_plain("Answers `", into)?;
-    push_plain_on(right, into)?;
+    if !into.is_empty() {
+        into.push(' ')?;
+    }
+    into.push_str("Answers")?;
+    open_code(into)?;
+    push_plain(right, into)?;
     into.push_str("`.")
 }
 
@@ -128,49 +133,4 @@ fn halves(text: &str, mark: char) -> (&str, &str) {
         Some((front, back)) => (front.trim(), back.trim()),
         None => (text.trim(), ""),
     }
-}
-
-/// Appends words after a blank, unless they are the first.
-fn push_plain(text: &str, into: &mut String) -> Result<(), AllocError> {
-    if !into.is_empty() && !text.is_empty() {
-        into.push(' ')?;
-    }
-    push_plain_on(text, into)
-}
-
-/// Appends words with a blank between two.
-fn push_plain_on(text: &str, into: &mut String) -> Result<(), AllocError> {
-    let mut is_first = true;
-    for word in text.split_whitespace() {
-        if !is_first {
-            into.push(' ')?;
-        }
-        push_word(word, into)?;
-        is_first = false;
-    }
-    Ok(())
-}
-
-/// Appends a word that ends no comment, escapes nothing and is no sign of a documentation's markup: letters, digits and the signs of ASCII,
-/// where `*/`, three quotes, a single quote or accent twice and a backslash are written in another way, and for any other character `?`.
-fn push_word(word: &str, into: &mut String) -> Result<(), AllocError> {
-    for letter in word.chars() {
-        if letter == '\\' || letter == '/' {
-            if into.as_str().ends_with('*') {
-                into.push(' ')?;
-            }
-            into.push('/')?;
-        } else if letter == '"' && into.as_str().ends_with("\"\"") {
-            into.push('\'')?;
-        } else if letter == '\'' && into.as_str().ends_with('\'') {
-            into.push('"')?;
-        } else if letter == '`' && into.as_str().ends_with('`') {
-            into.push('\'')?;
-        } else if letter.is_ascii_graphic() || letter.is_alphanumeric() {
-            into.push(letter)?;
-        } else {
-            into.push('?')?;
-        }
-    }
-    Ok(())
 }

@@ -1,9 +1,10 @@
 //! Comments.
 use crate::languages::{Family, Language};
 use crate::pages::Page;
+use kat_emit::begins_markup;
 use std::alloc::AllocError;
 
-/// How many letters a line of a comment has at most, unless a word is longer.
+/// How many letters a line of a comment has at most, unless a word is longer, or the next one would be markup at the start of a line.
 const WIDTH: usize = 108;
 
 /// Appends words in lines, with `mark` before each line but the first.
@@ -11,7 +12,8 @@ fn put_wrapped(text: &str, mark: &str, page: &mut Page) -> Result<(), AllocError
     let mut column = 0usize;
     for word in text.split(' ') {
         let width = word.chars().count();
-        if column > 0 && column.saturating_add(width).saturating_add(1) > WIDTH {
+        let is_long = column.saturating_add(width).saturating_add(1) > WIDTH;
+        if column > 0 && is_long && !begins_markup(word) {
             page.put("\n")?;
             page.put(mark)?;
             column = 0;
