@@ -19,27 +19,47 @@ const NODES: usize = 400;
 /// have them, and the others for each field that is read whether the second rule that fits is used in place of the first.
 pub(crate) fn formula_guess(alloc: Global, ty: &SeqType, number: u32) -> Result<Guess, Miss> {
     let mut store = new_store(alloc, ty, number % 2 == 1);
-    let mut choices = number / 2;
+    let readings = readings_of(alloc, ty, &mut store, number / 2)?;
+    let formulas = formulas_of(alloc, ty, &mut store, &readings)?;
+    guess_of(alloc, ty, &store, &formulas)
+}
+
+/// The reading of each field that something else reads: by the first rule that fits, or where the lowest bits of the choices say so by
+/// the second.
+pub(crate) fn readings_of(
+    alloc: Global,
+    ty: &SeqType,
+    store: &mut Store,
+    choices: u32,
+) -> Result<Vec<Option<Expr>>, Miss> {
+    let mut left = choices;
     let mut readings = Vec::new(alloc);
     for (field, _) in ty.fields.as_slice().iter().enumerate() {
         let field = number_of(field);
         if is_read_anywhere(ty, field) {
-            push(
-                &mut readings,
-                field_reading(alloc, ty, field, &mut store, choices % 2)?,
-            )?;
-            choices /= 2;
+            let reading = field_reading(alloc, ty, field, store, left % 2)?;
+            push(&mut readings, reading)?;
+            left /= 2;
         } else {
             push(&mut readings, None)?;
         }
     }
-    let formulas = formulas_of(alloc, ty, &mut store, &readings)?;
+    Ok(readings)
+}
+
+/// What is kept, and the asks of the formulas of all queries.
+pub(crate) fn guess_of(
+    alloc: Global,
+    ty: &SeqType,
+    store: &Store,
+    formulas: &[Expr],
+) -> Result<Guess, Miss> {
     let mut asks = Vec::new(alloc);
     for (query, formula) in ty.queries.as_slice().iter().zip(formulas.iter()) {
-        let scope = scope_of(alloc, &store, sorts_of(alloc, query)?)?;
+        let scope = scope_of(alloc, store, sorts_of(alloc, query)?)?;
         push(&mut asks, formula_ask(alloc, &scope, formula)?)?;
     }
-    let kept = finished(alloc, &store, &asks)?;
+    let kept = finished(alloc, store, &asks)?;
     let mut moved = Vec::new(alloc);
     for (query, formula) in ty.queries.as_slice().iter().zip(formulas.iter()) {
         let scope = kept.scope(alloc, sorts_of(alloc, query)?)?;
@@ -89,7 +109,7 @@ fn reads_other(assign: &Assign, number: u32) -> bool {
 
 /// The reading of a field by the first rule that fits, so many being passed over: those about what operations compute, and then
 /// the others. There is none if no rule fits.
-fn field_reading(
+pub(crate) fn field_reading(
     alloc: Global,
     ty: &SeqType,
     field: u32,
@@ -113,7 +133,7 @@ fn field_reading(
 }
 
 /// The formula of each query over what is kept.
-fn formulas_of(
+pub(crate) fn formulas_of(
     alloc: Global,
     ty: &SeqType,
     store: &mut Store,
@@ -138,9 +158,19 @@ fn formula_of(
     store: &Store,
     readings: &[Option<Expr>],
 ) -> Result<Expr, Miss> {
-    let fields = number_of(ty.fields.as_slice().len());
     let stepped = by_steps(alloc, store, &query.right)?;
-    let mut formula = replaced(alloc, &stepped, readings, &[])?;
+    over_leaves(alloc, ty, &stepped, readings)
+}
+
+/// An expression over what is kept, by the readings of the fields.
+pub(crate) fn over_leaves(
+    alloc: Global,
+    ty: &SeqType,
+    expr: &Expr,
+    readings: &[Option<Expr>],
+) -> Result<Expr, Miss> {
+    let fields = number_of(ty.fields.as_slice().len());
+    let mut formula = replaced(alloc, expr, readings, &[])?;
     for _ in 0..fields {
         if reads_field(&formula, 0, fields) && node_count(&formula) <= NODES {
             formula = replaced(alloc, &formula, readings, &[])?;

@@ -1,6 +1,7 @@
 //! Guesses: whole designs for a type, put together from what rules give for its fields.
 
 use crate::formulas::formula_guess;
+use crate::guarded::{guarded_count, guarded_guess};
 use crate::plain::{Guess, Rule, is_read, plain_guess, rule_of};
 use kat_reading::{Miss, columns_of, full_columns_of, kept_of, number_of};
 use kat_type::SeqType;
@@ -11,7 +12,7 @@ const MOST: u32 = 16;
 
 /// A guess for a type. The bits of the number, from the lowest, say for each field that a query reads whether the second rule
 /// that fits is used in place of the first: so 0 is the cheapest guess, and with k such fields there are 2^k at most. The numbers
-/// after these are those of guesses by formulas.
+/// after these are those of guesses by formulas, and then those with a guard.
 ///
 /// It is `NoRule` if for some field no rule is left, and if no ask gives what a query asks.
 pub fn guess_for(alloc: Global, ty: &SeqType, number: u32) -> Result<Guess, Miss> {
@@ -20,7 +21,10 @@ pub fn guess_for(alloc: Global, ty: &SeqType, number: u32) -> Result<Guess, Miss
     }
     match number.checked_sub(plain_count(ty)) {
         None => plain_guess(alloc, ty, number),
-        Some(left) => formula_guess(alloc, ty, left),
+        Some(left) => match left.checked_sub(formula_count(ty)) {
+            None => formula_guess(alloc, ty, left),
+            Some(guarded) => guarded_guess(alloc, ty, guarded),
+        },
     }
 }
 
@@ -55,10 +59,17 @@ fn has_lone_digit(alloc: Global, ty: &SeqType) -> Result<bool, Miss> {
     Ok(false)
 }
 
-/// How many guesses there are for a type: 2^k with k fields that a query reads, and 16 at most; and as many, twice, by formulas.
+/// How many guesses there are for a type: 2^k with k fields that a query reads, and 16 at most; as many, twice, by formulas; and for
+/// each query two with a guard.
 pub fn guess_count(ty: &SeqType) -> u32 {
-    let plain = plain_count(ty);
-    plain.saturating_add(plain.saturating_mul(2))
+    plain_count(ty)
+        .saturating_add(formula_count(ty))
+        .saturating_add(guarded_count(ty))
+}
+
+/// How many guesses there are by formulas.
+fn formula_count(ty: &SeqType) -> u32 {
+    plain_count(ty).saturating_mul(2)
 }
 
 /// How many guesses there are by the rules for what operations set, add and join.

@@ -6,11 +6,13 @@
 #![tactic(auto)]
 
 mod formulas;
+mod guarded;
 mod guesses;
 mod joins;
 mod ladders;
 mod last_writes;
 mod levels;
+mod marking;
 mod plain;
 mod steps;
 mod sums;
