@@ -4,8 +4,8 @@ use kat_design::Leaf;
 use kat_expr::Expr;
 use kat_formulas::{choice_of, copied, equal, reads_argument, replaced};
 use kat_keeping::{
-    CODES, Change, Holds, Slot, Solved, Store, Subject, add_leaf, add_register, first_code,
-    held_by, holds_sort, leaf_of, next_piece, register_of, solve,
+    CODES, Change, Holds, Register, Slot, Solved, Store, Subject, add_leaf, add_register,
+    first_code, held_by, holds_sort, leaf_of, next_piece, register_of, solve,
 };
 use kat_num::{Sort, Value};
 use kat_reading::{Miss, number_of, push};
@@ -211,11 +211,29 @@ fn kept(
             push(&mut tags, None)?;
         }
     }
+    let ops = ty.ops.as_slice();
+    let args = kept_arguments(alloc, ops, subject, forms, starts, &mut register, store)?;
+    add_register(store, register)?;
+    meant(alloc, forms, rest, &tags, &args)
+}
+
+/// Keeps a slot for each code that has arguments, and gives what reads them.
+fn kept_arguments(
+    alloc: Global,
+    ops: &[Operation],
+    subject: &Subject,
+    forms: &Forms,
+    starts: &[Solved],
+    register: &mut Register,
+    store: &mut Store,
+) -> Result<Vec<Option<Expr>>, Miss> {
+    let keyed = subject.key.is_some();
+    let piece = next_piece(store);
     let mut args = Vec::new(alloc);
     for code in 0..CODES {
         if is_used(forms, code) {
             let leaf = number_of(register.slots.len());
-            let slot = slot_of(alloc, ty.ops.as_slice(), forms, subject, code, starts)?;
+            let slot = slot_of(alloc, ops, forms, subject, code, starts)?;
             push(&mut register.slots, slot)?;
             let stored = leaf_of(piece, leaf, keyed, held_by(code));
             push(&mut args, Some(add_leaf(store, stored)?))?;
@@ -223,8 +241,7 @@ fn kept(
             push(&mut args, None)?;
         }
     }
-    add_register(store, register)?;
-    meant(alloc, forms, rest, &tags, &args)
+    Ok(args)
 }
 
 /// The formula that the tags tell, or else the one that is meant without; there is a tag for each other formula.

@@ -157,10 +157,7 @@ fn over_equal(
     }
     match expr {
         Expr::Const(_) | Expr::Arg(_) | Expr::Plain(_) | Expr::Keyed { .. } => {
-            if reads_field(expr, other.field, other.field.saturating_add(1)) {
-                return Err(Miss::NoRule);
-            }
-            Ok(copied(alloc, expr)?)
+            unless_read(alloc, other, expr)
         }
         Expr::Not(inner) => {
             let inner = over_equal(alloc, other, key, inner, after)?;
@@ -186,6 +183,14 @@ fn over_equal(
             Ok(choice_of(alloc, condition, then, rest)?)
         }
     }
+}
+
+/// An expression without parts; no rule fits if it reads the other field.
+fn unless_read(alloc: Global, other: &Subject, expr: &Expr) -> Result<Expr, Miss> {
+    if reads_field(expr, other.field, other.field.saturating_add(1)) {
+        return Err(Miss::NoRule);
+    }
+    Ok(copied(alloc, expr)?)
 }
 
 /// The expression, in which the key of the assignment is the key 0; no rule fits if it has another key.
