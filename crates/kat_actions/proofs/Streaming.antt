@@ -1,137 +1,101 @@
--- What the reader keeps from line to line of a text.
-use Rattle.std.proofs.Common.{◌≡◌, ℕ, ◌+◌, ◌≤◌, List, [], ◌∷◌, ◌++◌, length, sym, ◌∙◌, ap, subst, append_assoc, append-nil, inl, inr, ◌⊎◌, arith, Option, None, Some}
-use Rattle.kat_lex.proofs.LineReading.{AreOneLine, IsEndedLine}
-use Rattle.kat_lex.specs.Tokens.{Lexes}
+-- What the lines of a text are read as, if each is taken in, or all up to one that is refused.
+use Rattle.std.proofs.Common.{◌≡◌, ℕ, suc, ◌+◌, List, [], ◌∷◌, ◌++◌, length, refl, sym, ◌∙◌, ap, subst, append_assoc, append-nil, arith, Option, None, Some}
+use Rattle.kat_lex.specs.Tokens.{TellsFault, TokensOf}
 use Rattle.kat_lex.specs.declared.lexer.LexError.{LexError}
 use Rattle.kat_lex.specs.declared.lexer.LexError.TheVariants as lex
 use Rattle.kat_lex.specs.declared.lexer.Token.{Token}
+use Rattle.kat_lines.specs.Lines.{IsReadWhole, IsRefusedFirst, TakesEach, at_byte as first_at_byte, at_line as first_at_line, none, one}
 use Rattle.kat_script.specs.Faults.{refusal_of_fault}
-use Rattle.kat_script.specs.Reading.{FaultsFirst, TellsFaultFrom}
 use Rattle.kat_script.specs.Script.{text_lines}
 use Rattle.kat_script.specs.declared.error.ScriptError.{ScriptError}
 use Rattle.kat_script.specs.declared.error.ScriptError.TheVariants as refusal
-use Rattle.kat_script.proofs.Streaming.{cut_line, last_line, regroup}
 use Rattle.kat_type.specs.declared.signatures.Signature.{Signature}
-use Rattle.kat_actions.specs.Reading.{Refuses, Takes}
-use Rattle.kat_actions.specs.Texts.{AreCallsOf, IsRefused, Reads, TellsRefusal, at_byte, at_line, ends}
+use Rattle.kat_actions.specs.Reading.{Refuses, RefusesLine, Takes, TakesLine}
+use Rattle.kat_actions.specs.Texts.{AreCallsOf, Reads, TellsRefusal, at_byte, at_line, ends}
 use Rattle.kat_actions.specs.declared.calls.Call.{Call}
 use Rattle.kat_actions.specs.declared.calls.Verb.{Verb}
+use Rattle.kat_actions.specs.declared.reader.Reader.{Reader}
 
--- The reader is at the line of this number, which begins at this place of the text. Whatever tokens the rest has, the whole has
--- with those of the lines so far before them; whatever calls the rest has, the whole has with those so far before them.
-pub record Reached (verb : Verb) (sig : Signature) (text : List ℕ) (at : ℕ) (calls : List Call) (number : ℕ) : Type 0 where
-  pub within : at ≤ length text
-  pub small : number ≤ at + 1
-  pub before : List Token
-  pub lexed : (tokens : List Token) (end : Option LexError) → Lexes text at tokens end → Lexes text 0 (before ++ tokens) end
-  pub reads : (tokens : List Token) (more : List Call) (end : Option ScriptError) → Reads verb sig number (length calls) (text_lines tokens) more end
-      → Reads verb sig 1 0 (text_lines (before ++ tokens)) (calls ++ more) end
+-- whatever calls the rest has, the lines have with it, after those that the reader took in
+record AreRead (verb : Verb) (sig : Signature) (number : ℕ) (lines : List (List Token)) (old new : Reader) : Type 0 where
+  verb_kept : new.verb ≡ verb
+  more : List Call
+  calls : new.calls.items ≡ old.calls.items ++ more
+  reads : (rest : List (List Token)) (calls : List Call) (end : Option ScriptError) → Reads verb sig (length lines + number) (length new.calls.items) rest calls end
+      → Reads verb sig number (length old.calls.items) (lines ++ rest) (more ++ calls) end
 
-pub reached_start : (verb : Verb) (sig : Signature) (text : List ℕ) (calls : List Call) → calls ≡ [] → Reached verb sig text 0 calls 1
-reached_start verb sig text calls none = record {
-  within = omega arith;
-  small = omega arith;
-  before = [];
-  lexed = λ tokens end more. more;
-  reads = λ tokens more end r.
-      subst (λ (l : List Call). Reads verb sig 1 (length l) (text_lines tokens) more end → Reads verb sig 1 0 (text_lines tokens) (l ++ more) end) (sym none) (λ s. s) r;
-}
+no_further : (number : ℕ) → 0 + number ≡ number
+no_further number = omega arith
 
--- one line further
-pub reached_next : (verb : Verb) (sig : Signature) (text : List ℕ) (at next : ℕ) (line : List Token) (old new : List Call) (number : ℕ)
-    → Reached verb sig text at old number → AreOneLine line → IsEndedLine text at line next → Takes verb sig number line old new → Reached verb sig text next new (number + 1)
-reached_next verb sig text at next line old new number here plain ended taken =
+one_further : (count number : ℕ) → suc count + number ≡ count + (number + 1)
+one_further count number = omega arith
+
+are_read : (verb : Verb) (sig : Signature) (number : ℕ) (lines : List (List Token)) (old new : Reader) → old.verb ≡ verb → TakesEach (TakesLine sig) number lines old new
+    → AreRead verb sig number lines old new
+are_read verb sig number _ old _ is (none) = record { verb_kept = is; more = []; calls = sym (append-nil old.calls.items); reads = λ rest calls end r. subst (λ (n : ℕ). Reads verb sig n (length old.calls.items) rest calls end) (no_further number) r }
+are_read verb sig number _ old new is (one {line = line} {lines = lines} next taken each) =
+    let here : Takes verb sig number line old.calls.items next.calls.items = subst (λ (v : Verb). Takes v sig number line old.calls.items next.calls.items) is taken.1 in
+    let after = are_read verb sig (number + 1) lines next new (taken.0 ∙ is) each in
     record {
-      within = ended.within;
-      small = omega (arith, ended.onward, here.small);
-      before = here.before ++ (line ++ ended.newline ∷ []);
-      lexed = λ tokens end more.
-          subst (λ (ts : List Token). Lexes text 0 ts end) (sym (regroup here.before line ended.newline tokens))
-          (here.lexed (line ++ ended.newline ∷ tokens) end (ended.goes tokens end more));
-      reads = λ tokens calls end r.
-          let read : Reads verb sig number (length old) (text_lines (line ++ ended.newline ∷ tokens)) (taken.more ++ calls) end =
-          subst (λ (l : List (List Token)). Reads verb sig number (length old) l (taken.more ++ calls) end) (sym (cut_line line ended.newline tokens plain ended.is_one))
-          (taken.reads (text_lines tokens) calls end r) in
-          let whole : Reads verb sig 1 0 (text_lines (here.before ++ (line ++ ended.newline ∷ tokens))) (old ++ (taken.more ++ calls)) end =
-          here.reads (line ++ ended.newline ∷ tokens) (taken.more ++ calls) end read in
-          subst (λ (ts : List Token). Reads verb sig 1 0 (text_lines ts) (new ++ calls) end) (sym (regroup here.before line ended.newline tokens))
-          (subst (λ (l : List Call). Reads verb sig 1 0 (text_lines (here.before ++ (line ++ ended.newline ∷ tokens))) l end)
-          (sym (append_assoc old taken.more calls) ∙ ap (λ (l : List Call). l ++ calls) (sym taken.calls)) whole);
+      verb_kept = after.verb_kept;
+      more = here.more ++ after.more;
+      calls = after.calls ∙ (ap (λ (l : List Call). l ++ after.more) here.calls ∙ append_assoc old.calls.items here.more after.more);
+      reads = λ rest calls end r.
+          subst (λ (l : List Call). Reads verb sig number (length old.calls.items) (line ∷ (lines ++ rest)) l end) (sym (append_assoc here.more after.more calls))
+          (here.reads (lines ++ rest) (after.more ++ calls) end
+          (after.reads rest calls end (subst (λ (n : ℕ). Reads verb sig n (length new.calls.items) rest calls end) (one_further (length lines) number) r)));
     }
 
--- a fault of tokens from a place on refuses the text
-fault_at : (verb : Verb) (sig : Signature) (text : List ℕ) (before : List Token) (at : ℕ) (fault : LexError)
-    → ((tokens : List Token) (end : Option LexError) → Lexes text at tokens end → Lexes text 0 (before ++ tokens) end)
-    → TellsFaultFrom text at fault → TellsRefusal verb sig text (refusal_of_fault fault)
-fault_at verb sig text before at (lex.BadByte p) lexed h = at_byte (lex.BadByte p) (before ++ h.0, lexed h.0 (Some (lex.BadByte p)) h.1)
-fault_at verb sig text before at (lex.LongName p) lexed h = at_byte (lex.LongName p) (before ++ h.0, lexed h.0 (Some (lex.LongName p)) h.1)
-fault_at verb sig text before at (lex.LongNumber p) lexed h = at_byte (lex.LongNumber p) (before ++ h.0, lexed h.0 (Some (lex.LongNumber p)) h.1)
-fault_at verb sig text before at lex.Memory lexed h = tt
+-- from the first line on
+record AreFirst (verb : Verb) (sig : Signature) (lines : List (List Token)) (new : Reader) : Type 0 where
+  verb_kept : new.verb ≡ verb
+  reads : (rest : List (List Token)) (end : Option ScriptError) → Reads verb sig (length lines + 1) (length new.calls.items) rest [] end
+      → Reads verb sig 1 0 (lines ++ rest) new.calls.items end
 
-pub reached_fault : (verb : Verb) (sig : Signature) (text : List ℕ) (at : ℕ) (calls : List Call) (number : ℕ) (fault : LexError) → Reached verb sig text at calls number
-    → TellsFaultFrom text at fault → TellsRefusal verb sig text (refusal_of_fault fault)
-reached_fault verb sig text at calls number fault here h = fault_at verb sig text here.before at fault here.lexed h
+are_first : (verb : Verb) (sig : Signature) (lines : List (List Token)) (old new : Reader) → old.verb ≡ verb → old.calls.items ≡ [] → TakesEach (TakesLine sig) 1 lines old new
+    → AreFirst verb sig lines new
+are_first verb sig lines old new is empty each =
+    let read = are_read verb sig 1 lines old new is each in
+    record {
+      verb_kept = read.verb_kept;
+      reads = λ rest end r.
+          subst (λ (l : List Call). Reads verb sig 1 0 (lines ++ rest) l end) (append-nil read.more ∙ sym (read.calls ∙ ap (λ (l : List Call). l ++ read.more) empty))
+          (subst (λ (n : ℕ). Reads verb sig 1 n (lines ++ rest) (read.more ++ []) end) (ap (λ (l : List Call). length l) empty) (read.reads rest [] end r));
+    }
 
-line_refused : (verb : Verb) (sig : Signature) (text : List ℕ) (at : ℕ) (calls : List Call) (number : ℕ) (line rest : List Token) (error : ScriptError) → Reached verb sig text at calls number
-    → (more : List (List Token)) → text_lines (line ++ rest) ≡ line ∷ more → Lexes text at (line ++ rest) None
-    → ((rest : List (List Token)) → Reads verb sig number (length calls) (line ∷ rest) [] (Some error))
-    → IsRefused verb sig text error
-line_refused verb sig text at calls number line rest error here more cut lexed h =
-    at_line (here.before ++ (line ++ rest)) (calls ++ []) (here.lexed (line ++ rest) None lexed)
-    (here.reads (line ++ rest) [] (Some error)
-    (subst (λ (l : List (List Token)). Reads verb sig number (length calls) l [] (Some error)) (sym cut) (h more)))
-
--- the line is refused, and the rest of the text has these tokens
-refused_line : (verb : Verb) (sig : Signature) (text : List ℕ) (at : ℕ) (calls : List Call) (number : ℕ) (line rest : List Token) (error : ScriptError) → Reached verb sig text at calls number
-    → (more : List (List Token)) → text_lines (line ++ rest) ≡ line ∷ more → Lexes text at (line ++ rest) None
-    → Refuses verb sig number line calls error → TellsRefusal verb sig text error
-refused_line verb sig text at calls number line rest (refusal.Refused n p) here more cut lexed h = line_refused verb sig text at calls number line rest (refusal.Refused n p) here more cut lexed h
-refused_line verb sig text at calls number line rest (refusal.Line n p) here more cut lexed h = line_refused verb sig text at calls number line rest (refusal.Line n p) here more cut lexed h
-refused_line verb sig text at calls number line rest (refusal.Late n p) here more cut lexed h = line_refused verb sig text at calls number line rest (refusal.Late n p) here more cut lexed h
-refused_line verb sig text at calls number line rest refusal.Memory here more cut lexed h = tt
-
--- the last line is refused
-pub reached_last_refused : (verb : Verb) (sig : Signature) (text : List ℕ) (at : ℕ) (calls : List Call) (number : ℕ) (line : List Token) (error : ScriptError) → Reached verb sig text at calls number
-    → AreOneLine line → Lexes text at line None → Refuses verb sig number line calls error → TellsRefusal verb sig text error
-reached_last_refused verb sig text at calls number line error here plain lexed h =
-    refused_line verb sig text at calls number line [] error here [] (ap (λ l. text_lines l) (append-nil line) ∙ last_line line plain)
-    (subst (λ (l : List Token). Lexes text at l None) (sym (append-nil line)) lexed) h
-
-tells : (verb : Verb) (sig : Signature) (text : List ℕ) (result : ScriptError) (error : ScriptError) → result ≡ error → TellsRefusal verb sig text error → TellsRefusal verb sig text result
-tells verb sig text result error is h = subst (λ (e : ScriptError). TellsRefusal verb sig text e) (sym is) h
-
-faults_first : (verb : Verb) (sig : Signature) (text : List ℕ) (at next : ℕ) (calls : List Call) (number : ℕ) (line : List Token) (error result : ScriptError) → Reached verb sig text at calls number
-    → AreOneLine line → IsEndedLine text at line next → Refuses verb sig number line calls error
-    → ((fault : LexError) × (result ≡ refusal_of_fault fault) × TellsFaultFrom text next fault) ⊎ ((result ≡ error) × ((tokens : List Token) × Lexes text next tokens None))
-    → TellsRefusal verb sig text result
-faults_first verb sig text at next calls number line error result here plain ended h (inl f) =
-    tells verb sig text result (refusal_of_fault f.0) f.1
-    (fault_at verb sig text (here.before ++ (line ++ ended.newline ∷ [])) next f.0
-    (λ tokens end more.
-    subst (λ (ts : List Token). Lexes text 0 ts end) (sym (regroup here.before line ended.newline tokens))
-    (here.lexed (line ++ ended.newline ∷ tokens) end (ended.goes tokens end more))) f.2)
-faults_first verb sig text at next calls number line error result here plain ended h (inr f) =
-    tells verb sig text result error f.0
-    (refused_line verb sig text at calls number line (ended.newline ∷ f.1.0) error here (text_lines f.1.0)
-    (cut_line line ended.newline f.1.0 plain ended.is_one) (ended.goes f.1.0 None f.1.1) h)
-
--- a line before the last one is refused
-pub reached_refused : (verb : Verb) (sig : Signature) (text : List ℕ) (at next : ℕ) (calls : List Call) (number : ℕ) (line : List Token) (error result : ScriptError) → Reached verb sig text at calls number
-    → AreOneLine line → IsEndedLine text at line next → Refuses verb sig number line calls error → FaultsFirst text next error result → TellsRefusal verb sig text result
-reached_refused verb sig text at next calls number line error (refusal.Refused n p) here plain ended h f = faults_first verb sig text at next calls number line error (refusal.Refused n p) here plain ended h f
-reached_refused verb sig text at next calls number line error (refusal.Line n p) here plain ended h f = faults_first verb sig text at next calls number line error (refusal.Line n p) here plain ended h f
-reached_refused verb sig text at next calls number line error (refusal.Late n p) here plain ended h f = faults_first verb sig text at next calls number line error (refusal.Late n p) here plain ended h f
-reached_refused verb sig text at next calls number line error refusal.Memory here plain ended h f = tt
-
--- all lines are read, the last one too
-pub finished : (verb : Verb) (sig : Signature) (text : List ℕ) (at : ℕ) (line : List Token) (old new : List Call) (number : ℕ) → Reached verb sig text at old number
-    → AreOneLine line → Lexes text at line None → Takes verb sig number line old new → AreCallsOf verb sig text new
-finished verb sig text at line old new number here plain lexed taken = record {
-  tokens = here.before ++ line;
-  lexed = here.lexed line None lexed;
+-- all lines are taken in
+pub read_whole : (verb : Verb) (sig : Signature) (text : List ℕ) (old new : Reader) → old.verb ≡ verb → old.calls.items ≡ [] → IsReadWhole (TakesLine sig) text old new
+    → AreCallsOf verb sig text new.calls.items
+read_whole verb sig text old new is empty whole = record {
+  tokens = whole.tokens;
+  lexed = whole.lexed;
   read =
-      subst (λ (l : List Call). Reads verb sig 1 0 (text_lines (here.before ++ line)) l None)
-      (ap (λ (l : List Call). old ++ l) (append-nil taken.more) ∙ sym taken.calls)
-      (here.reads line (taken.more ++ []) None
-      (subst (λ (l : List (List Token)). Reads verb sig number (length old) l (taken.more ++ []) None) (sym (last_line line plain)) (taken.reads [] [] None ends)));
+      subst (λ (l : List (List Token)). Reads verb sig 1 0 l new.calls.items None) (append-nil (text_lines whole.tokens))
+      ((are_first verb sig (text_lines whole.tokens) old new is empty whole.each).reads [] None ends);
 }
+
+fault_told : (verb : Verb) (sig : Signature) (text : List ℕ) (fault : LexError) → TellsFault text fault → TellsRefusal verb sig text (refusal_of_fault fault)
+fault_told verb sig text (lex.BadByte p) h = at_byte (lex.BadByte p) h
+fault_told verb sig text (lex.LongName p) h = at_byte (lex.LongName p) h
+fault_told verb sig text (lex.LongNumber p) h = at_byte (lex.LongNumber p) h
+fault_told verb sig text lex.Memory h = tt
+
+-- a line after these refuses the text
+refused : (verb : Verb) (sig : Signature) (text : List ℕ) (there : Reader) (error : ScriptError) (tokens : List Token) (front : List (List Token)) (line : List Token) (rest : List (List Token))
+    → AreFirst verb sig front there → TokensOf text tokens → text_lines tokens ≡ front ++ line ∷ rest
+    → Refuses verb sig (length front + 1) line there.calls.items error → TellsRefusal verb sig text error
+refused verb sig text there (refusal.Refused n p) tokens front line rest read lexed cut h =
+    at_line tokens there.calls.items lexed (subst (λ (l : List (List Token)). Reads verb sig 1 0 l there.calls.items (Some (refusal.Refused n p))) (sym cut) (read.reads (line ∷ rest) (Some (refusal.Refused n p)) (h rest)))
+refused verb sig text there (refusal.Line n p) tokens front line rest read lexed cut h =
+    at_line tokens there.calls.items lexed (subst (λ (l : List (List Token)). Reads verb sig 1 0 l there.calls.items (Some (refusal.Line n p))) (sym cut) (read.reads (line ∷ rest) (Some (refusal.Line n p)) (h rest)))
+refused verb sig text there (refusal.Late n p) tokens front line rest read lexed cut h =
+    at_line tokens there.calls.items lexed (subst (λ (l : List (List Token)). Reads verb sig 1 0 l there.calls.items (Some (refusal.Late n p))) (sym cut) (read.reads (line ∷ rest) (Some (refusal.Late n p)) (h rest)))
+refused verb sig text there refusal.Memory tokens front line rest read lexed cut h = tt
+
+pub refused_first : (verb : Verb) (sig : Signature) (text : List ℕ) (old : Reader) (error : ScriptError) → old.verb ≡ verb → old.calls.items ≡ []
+    → IsRefusedFirst (TakesLine sig) (RefusesLine sig) refusal_of_fault text old error → TellsRefusal verb sig text error
+refused_first verb sig text old _ is empty (first_at_byte fault h) = fault_told verb sig text fault h
+refused_first verb sig text old error is empty (first_at_line tokens front line rest there lexed cut each h) =
+    let read = are_first verb sig front old there is empty each in
+    refused verb sig text there error tokens front line rest read lexed cut
+    (subst (λ (v : Verb). Refuses v sig (length front + 1) line there.calls.items error) read.verb_kept h)

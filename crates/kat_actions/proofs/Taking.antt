@@ -7,11 +7,12 @@ use Rattle.kat_script.specs.declared.error.ScriptError.{ScriptError}
 use Rattle.kat_script.specs.declared.error.ScriptError.TheVariants as refusal
 use Rattle.kat_type.specs.declared.signatures.Signature.{Signature}
 use Rattle.kat_actions.specs.Grammar.{Calls}
-use Rattle.kat_actions.specs.Reading.{Refuses, Takes}
+use Rattle.kat_actions.specs.Reading.{Refuses, Takes, TakesLine}
 use Rattle.kat_actions.specs.Texts.{Reads, blank, breaks, call_of, judged, keeps, unreadable}
 use Rattle.kat_actions.specs.declared.calls.Call.{Call}
 use Rattle.kat_actions.specs.declared.calls.Called.{Called}
 use Rattle.kat_actions.specs.declared.calls.Verb.{Verb}
+use Rattle.kat_actions.specs.declared.reader.Reader.{Reader}
 
 -- a blank line changes nothing but the number
 pub takes_blank : (verb : Verb) (sig : Signature) (number : ℕ) (tokens : List Token) (calls : List Call) → tokens ≡ [] → Takes verb sig number tokens calls calls
@@ -35,13 +36,17 @@ one_more : (calls new : List Call) (call : Call) → new ≡ calls ++ call ∷ [
 one_more calls new call is = ap (λ l. length l) is ∙ length-append calls (call ∷ [])
 
 -- a line that keeps the rules
-pub takes_kept : (verb : Verb) (sig : Signature) (number : ℕ) (tokens : List Token) (old new : List Call) (called : Called) (item : ℕ) (result : Result (Unit {0}) ScriptError)
-    → Calls verb tokens called → judged verb sig (length old) called ≡ Ok item → OnOk result (new ≡ old ++ call_of number item called ∷ [])
-    → OnOk result (Takes verb sig number tokens old new)
-takes_kept verb sig number tokens old new called item (Err e) c kept is = tt
-takes_kept verb sig number tokens old new called item (Ok x) c kept is = record {
-  more = call_of number item called ∷ [];
-  calls = is;
-  reads = λ rest calls end r.
-      keeps called item c kept (subst (λ (n : ℕ). Reads verb sig (number + 1) n rest calls end) (one_more old new (call_of number item called) is) r);
-}
+pub takes_kept : (sig : Signature) (number : ℕ) (tokens : List Token) (old new : Reader) (called : Called) (item : ℕ) (result : Result (Unit {0}) ScriptError)
+    → Calls old.verb tokens called → judged old.verb sig (length old.calls.items) called ≡ Ok item → new.verb ≡ old.verb
+    → OnOk result (new.calls.items ≡ old.calls.items ++ call_of number item called ∷ []) → OnOk result (TakesLine sig number tokens old new)
+takes_kept sig number tokens old new called item (Err e) c kept verb is = tt
+takes_kept sig number tokens old new called item (Ok x) c kept verb is = (
+  verb,
+  record {
+    more = call_of number item called ∷ [];
+    calls = is;
+    reads = λ rest calls end r.
+        keeps called item c kept
+        (subst (λ (n : ℕ). Reads old.verb sig (number + 1) n rest calls end) (one_more old.calls.items new.calls.items (call_of number item called) is) r);
+  },
+)

@@ -8,6 +8,7 @@ use Rattle.kat_type.specs.declared.signatures.Signature.{Signature}
 use Rattle.kat_actions.specs.Texts.{Reads}
 use Rattle.kat_actions.specs.declared.calls.Call.{Call}
 use Rattle.kat_actions.specs.declared.calls.Verb.{Verb}
+use Rattle.kat_actions.specs.declared.reader.Reader.{Reader}
 
 -- the line of this number was read: whatever calls the rest has, the text from this line on has, with those that this one
 -- gave before them
@@ -22,3 +23,10 @@ abbrev pub Refuses : Verb → Signature → ℕ → List Token → List Call →
 Refuses verb sig number tokens old refusal.Memory = Unit {0}
 Refuses verb sig number tokens old error =
     (rest : List (List Token)) → Reads verb sig number (length old) (tokens ∷ rest) [] (Some error)
+
+-- the same, of a reader
+abbrev pub TakesLine : Signature → ℕ → List Token → Reader → Reader → Type 0
+TakesLine sig number tokens old new = (new.verb ≡ old.verb) × Takes old.verb sig number tokens old.calls.items new.calls.items
+
+abbrev pub RefusesLine : Signature → ℕ → List Token → Reader → ScriptError → Type 0
+RefusesLine sig number tokens old error = Refuses old.verb sig number tokens old.calls.items error

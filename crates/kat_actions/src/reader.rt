@@ -1,12 +1,11 @@
 //! How a file of calls is read, line by line.
-ghost use Rattle.std.specs.Prelude.{◌≡◌, ◌≤◌, ◌++◌, ◌∷◌, [], length, map, IfErr, IfOk, OnOk};
-ghost use Rattle.kat_script.specs.Reading.{FaultsFirst};
+ghost use Rattle.std.specs.Prelude.{◌≡◌, ◌++◌, ◌∷◌, [], map, IfErr, IfOk, OnOk};
 ghost use Rattle.kat_script.specs.Rules.{HasFewCalls, value_of};
-ghost use Rattle.kat_actions.specs.Reading.{Refuses, Takes};
 ghost use Rattle.kat_actions.specs.Texts.{AreCallsOf, TellsRefusal, call_of};
 
 use crate::calls::{Call, Called, Verb, called_in, judged};
-use kat_lex::{Token, line_tokens};
+use kat_lex::{LexError, Token};
+use kat_lines::{JudgesLines, read_lines};
 use kat_num::Items;
 use kat_script::{Constant, LINE_LIMIT, Mark, ScriptError, values_of};
 use kat_type::Signature;
@@ -15,6 +14,7 @@ use std::alloc::Global;
 /// What was read so far, and buffers.
 #[derive(Drop)]
 pub(crate) struct Reader {
+    pub(crate) verb: Verb,
     pub(crate) calls: Vec<Call>,
     pub(crate) marks: Vec<Mark>,
     pub(crate) spare: Vec<Constant>,
@@ -56,73 +56,48 @@ fn read_calls(
     ensures refusal { IfErr result (λ error. TellsRefusal verb sig.now bytes.now error) }
 {
     let mut reader = Reader {
+        verb,
         calls: Vec::with_capacity(alloc, (bytes.len() / 8).min(LINE_LIMIT as usize))?,
         marks: Vec::new(alloc),
         spare: Vec::new(alloc),
     };
-    let mut line = Vec::new(alloc);
-    let mut number = 1;
-    let mut at = 0;
-    'lines: while let Some(next) = line_tokens(alloc, bytes, at, &mut line)? {
-        if let Err(error) = reader.take(alloc, verb, sig, number, &mut line) {
-            return Err(first_fault(alloc, bytes, next, &mut line, error));
-        }
-        number += 1;
-        at = next;
-        line.clear();
-    }
-    reader.take(alloc, verb, sig, number, &mut line)?;
+    read_lines(alloc, bytes, sig, &mut reader)?;
     Ok(reader.calls)
 }
 
-/// The refusal of a file in which a line is refused: a fault of tokens after that line comes first. The line is a buffer.
-fn first_fault(
-    alloc: Global,
-    bytes: &[u8],
-    from: usize,
-    line: &mut Vec<Token>,
-    error: ScriptError,
-) -> ScriptError
-    requires { from ≤ length bytes.now }
-    ensures { FaultsFirst bytes.now from error result }
-{
-    if let ScriptError::Memory = error {
-        return ScriptError::Memory;
-    }
-    let mut at = from;
-    'lines: loop {
-        line.clear();
-        match line_tokens(alloc, bytes, at, line) {
-            Ok(Some(next)) => at = next,
-            Ok(None) => return error,
-            Err(fault) => return ScriptError::from(fault),
-        }
-    }
-}
+impl JudgesLines for Reader {
+    ghost use Rattle.kat_script.specs.Faults.{refusal_of_fault};
+    ghost use Rattle.kat_script.specs.Rules.{HasFewCalls};
+    ghost use Rattle.kat_actions.specs.Reading.{RefusesLine, TakesLine};
 
-impl Reader {
-    /// Takes in the line of this number.
+    type Rules = Signature;
+
+    type Error = ScriptError;
+
+    ghost ready = { HasFewCalls };
+
+    ghost takes = { TakesLine };
+
+    ghost refuses = { RefusesLine };
+
+    ghost refusal_of = { refusal_of_fault };
+
     fn take(
         &mut self,
         alloc: Global,
-        verb: Verb,
         sig: &Signature,
         number: u64,
         line: &mut Vec<Token>,
-    ) -> Result<(), ScriptError>
-        requires { HasFewCalls sig.now }
-        ensures takes { OnOk result (Takes verb sig.now number line.old.items self.old.calls.items self.new.calls.items) }
-        ensures refuses { IfErr result (λ error. Refuses verb sig.now number line.old.items self.old.calls.items error) }
-    {
+    ) -> Result<(), ScriptError> {
         if line.is_empty() {
             return Ok(());
         }
-        match called_in(alloc, verb, line, &mut self.marks, &mut self.spare)? {
+        match called_in(alloc, self.verb, line, &mut self.marks, &mut self.spare)? {
             None => Err(ScriptError::Line {
                 number: 10,
                 line: number,
             }),
-            Some(called) => match judged(verb, sig, self.calls.len(), &called) {
+            Some(called) => match judged(self.verb, sig, self.calls.len(), &called) {
                 Err(rule) => Err(ScriptError::Line {
                     number: rule,
                     line: number,
@@ -132,6 +107,12 @@ impl Reader {
         }
     }
 
+    fn refusal_of(fault: LexError) -> ScriptError {
+        ScriptError::from(fault)
+    }
+}
+
+impl Reader {
     /// Takes in a line that calls the operation or query of this number.
     fn keep(
         &mut self,
@@ -140,6 +121,7 @@ impl Reader {
         item: u32,
         called: Called,
     ) -> Result<(), ScriptError>
+        ensures verb { self.new.verb ≡ self.old.verb }
         ensures calls { OnOk result (self.new.calls.items ≡ self.old.calls.items ++ call_of number item called ∷ []) }
         ensures memory { IfErr result (λ error. error ≡ ScriptError.Memory) }
     {

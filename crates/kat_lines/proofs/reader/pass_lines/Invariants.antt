@@ -1,6 +1,6 @@
 use Rattle.std.proofs.Common.{◌-◌, length}
-use Rattle.kat_script.proofs.Behind.{Passed}
-use Rattle.kat_actions.proofs.reader.first_fault.Given as goal
+use Rattle.kat_lines.proofs.Streaming.{Passed}
+use Rattle.kat_lines.proofs.reader.pass_lines.Given as goal
 
 abbrev pub invariant-lines : goal.invariant-lines
 invariant-lines l = Passed l.bytes l.from l.at
