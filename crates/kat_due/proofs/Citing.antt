@@ -15,7 +15,7 @@ use Rattle.kat_type.specs.declared.signatures.Signature.{Signature}
 use Rattle.kat_type.specs.declared.types.SeqType.{SeqType}
 use Rattle.kat_due.specs.Differences.{DiffersOn, histories_for}
 use Rattle.kat_due.specs.Readings.{AreNumbers, EachIsNumber, histories_at, history_at}
-use Rattle.kat_due.proofs.Seeking.{NoneBefore, first_found, none_found, none_next}
+use Rattle.kat_hist.proofs.Seeking.{NoneBefore, first_found, none_found, none_next}
 
 -- a history by its number
 number_at : (sig : Signature) (number : ℕ) (history : History) → slice_get (histories sig) number ≡ Some history → history_at sig number ≡ history

@@ -1,4 +1,3 @@
-pub mod Seeking
 pub mod Citing
 pub mod States
 pub mod Expecting

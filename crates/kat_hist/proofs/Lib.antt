@@ -3,7 +3,7 @@ mod Telling
 mod Picking
 mod Found
 mod Asked
-mod Seeking
+pub mod Seeking
 mod Gathering
 mod Ranking
 mod CardMade

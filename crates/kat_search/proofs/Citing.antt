@@ -16,7 +16,7 @@ use Rattle.kat_type.specs.declared.types.SeqType.{SeqType}
 use Rattle.kat_telling.specs.Entries.{DiffersOn, histories_for}
 use Rattle.kat_search.specs.Findings.{AreNumbers, histories_at, history_at}
 use Rattle.kat_telling.specs.Reports.{differs_line, history_line}
-use Rattle.kat_search.proofs.Seeking.{NoneBefore, first_found, none_found, none_next}
+use Rattle.kat_hist.proofs.Seeking.{NoneBefore, first_found, none_found, none_next}
 
 -- a history by its number
 number_at : (sig : Signature) (number : ℕ) (history : History) → slice_get (histories sig) number ≡ Some history → history_at sig number ≡ history

@@ -1,4 +1,3 @@
-mod Seeking
 mod Citing
 mod Signed
 mod Below

@@ -4,7 +4,7 @@ use Rattle.kat_type.specs.Signatures.{signature_of}
 use Rattle.kat_type.specs.Types.{type_form}
 use Rattle.kat_telling.specs.Entries.{DiffersOn}
 use Rattle.kat_search.specs.Findings.{histories_at}
-use Rattle.kat_search.proofs.Seeking.{NoneBefore}
+use Rattle.kat_hist.proofs.Seeking.{NoneBefore}
 use Rattle.kat_search.proofs.trying.first_cited.Given as goal
 
 abbrev pub invariant-loop-place : goal.invariant-loop-place
