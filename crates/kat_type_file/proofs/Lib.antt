@@ -8,6 +8,7 @@ pub mod Files
 pub mod Nodes
 pub mod Depths
 pub mod Light
+pub mod EachToken
 pub mod Literals
 pub mod Keeping
 pub mod Alike

@@ -39,7 +39,8 @@ use Rattle.kat_type_file.proofs.Alike.{file_alike}
 use Rattle.kat_type_file.proofs.Depths.{text_as, written_of}
 use Rattle.kat_type_file.proofs.Keeping.{keeps_rules, not_refused}
 use Rattle.kat_type_file.proofs.Light.{each_right, right_broken, right_light}
-use Rattle.kat_type_file.proofs.Literals.{AreSmall, Every, IsSmallToken, all_every, are_small, constant_small, form_small, right_tokens}
+use Rattle.kat_type_file.proofs.EachToken.{AreMarked, Every, all_every, right_tokens}
+use Rattle.kat_type_file.proofs.Literals.{IsSmallMark, IsSmallToken, are_small, constant_small, form_small}
 use Rattle.kat_type_file.proofs.Nodes.{few_nodes, nodes_are, right_is, type_counts}
 use Rattle.kat_type_file.proofs.Refusals.{faults_none, none_each, none_front, none_rest, passes_none}
 
@@ -99,7 +100,7 @@ first_part a b most h = omega (arith, h)
 second_part : (a b most : ℕ) → a + b ≤ most → b ≤ most
 second_part a b most h = omega (arith, h)
 
-pub limited : (t : TypeText) → first_refusal t ≡ None → type_nodes (type_in t) ≤ 400 → AreSmall t → IsWithinLimits (type_in t)
+pub limited : (t : TypeText) → first_refusal t ≡ None → type_nodes (type_in t) ≤ 400 → AreMarked IsSmallMark t → IsWithinLimits (type_in t)
 limited t h nodes small =
     let none = operation_none t.states t (faults_none (first_of (faults_of t)) (first_of (limits_of t)) h) in
     let passes = passes_none t h in
