@@ -29,6 +29,15 @@ static size_t order_of(size_t size) {
     return order;
 }
 
+// Whether the memory has this many bytes, or has grown to them. It grows by an eighth at least, since an engine may take a millisecond for
+// each growth of a large memory; by no more than is missing only if there is no room for that.
+static int reaches(size_t end) {
+    size_t pages = __builtin_wasm_memory_size(0);
+    if (end <= pages * 65536) return 1;
+    size_t missing = (end - pages * 65536 + 65535) / 65536, more = pages / 8;
+    return (missing < more && __builtin_wasm_memory_grow(0, more) != (size_t)-1) || __builtin_wasm_memory_grow(0, missing) != (size_t)-1;
+}
+
 struct tried rattle_alloc(size_t size, size_t align) {
     (void)align;
     if (size > (size_t)1 << 40) return none();
@@ -40,8 +49,7 @@ struct tried rattle_alloc(size_t size, size_t align) {
     }
     if (!top) top = (unsigned char *)(((size_t)&__heap_base + 15) & ~(size_t)15);
     size_t end = (size_t)top + ((size_t)1 << order);
-    size_t have = __builtin_wasm_memory_size(0) * 65536;
-    if (end > have && __builtin_wasm_memory_grow(0, (end - have + 65535) / 65536) == (size_t)-1) return none();
+    if (!reaches(end)) return none();
     block = (struct block *)top;
     top = (unsigned char *)end;
     block->order = order;
