@@ -81,7 +81,7 @@ fn goes_on(alloc: Global, listing: &mut Listing) -> Result<bool, AllocError> {
     if listing.count() > LAST_NUMBER {
         return Ok(false);
     }
-    Ok(listing.next(alloc)?.is_some())
+    listing.advance(alloc)
 }
 
 /// The design of a listing that has a number, or `none`.
@@ -110,22 +110,41 @@ fn tell_numbered(
     requires some { 1 ≤ size }
     requires small { size ≤ 24 }
 {
+    let listing = Listing::new(alloc, ty, size, ALL)?;
+    tell_found(alloc, &listing, number, text)
+}
+
+/// Tells the design that a listing finds by a number, or `none`.
+fn tell_found(
+    alloc: Global,
+    listing: &Listing,
+    number: u64,
+    text: &mut Vec<u8>,
+) -> Result<(), AllocError> {
     if number > LAST_NUMBER {
         return text.extend_from_slice(b"none\n");
     }
-    let listing = Listing::new(alloc, ty, size, ALL)?;
     match listing.at(alloc, number)? {
         None => text.extend_from_slice(b"none\n"),
         Some(design) => tell_design(alloc, number, &design, text),
     }
 }
 
-/// Tells the last design that was given, with its number.
+/// Tells the last design that was given, with its number, and what the listing finds by that number if it isn't the same.
 fn tell_last(alloc: Global, listing: &Listing, text: &mut Vec<u8>) -> Result<(), AllocError> {
-    match listing.last() {
-        None => text.extend_from_slice(b"no design\n"),
-        Some(design) => tell_design(alloc, listing.count(), design, text),
+    let Some(design) = listing.last() else {
+        return text.extend_from_slice(b"no design\n");
+    };
+    let mut given = Vec::new(alloc);
+    let mut found = Vec::new(alloc);
+    tell_design(alloc, listing.count(), design, &mut given)?;
+    tell_found(alloc, listing, listing.count(), &mut found)?;
+    text.extend_from_slice(&given)?;
+    if given.as_slice() != found.as_slice() {
+        text.extend_from_slice(b"by its number: ")?;
+        text.extend_from_slice(&found)?;
     }
+    Ok(())
 }
 
 /// Tells a design with its number.
