@@ -1,11 +1,11 @@
 -- A report is read from design to design.
-use Rattle.std.proofs.Common.{◌≡◌, ℕ, ◌+◌, ◌<◌, ◌≤◌, ◌⊎◌, inl, inr, List, [], ◌∷◌, ◌++◌, length, Option, None, Some, Result, Ok, Err, ◌^◌, refl, sym, ap, ◌∙◌, subst, arith, slice_get}
-use Rattle.std.specs.Prelude.{IfOk, option_map}
+use Rattle.std.proofs.Common.{◌≡◌, ℕ, ◌+◌, ◌<◌, ◌≤◌, ◌⊎◌, inl, inr, Bool, true, false, List, [], ◌∷◌, ◌++◌, length, Option, None, Some, Result, Ok, Err, ◌^◌, refl, sym, ap, ◌∙◌, subst, arith, slice_get}
+use Rattle.std.specs.Prelude.{IfOk, is_some}
 use Rattle.std.proofs.lemmas.List.{length-append, length-map, map-append}
 use Rattle.std.proofs.lemmas.Option.{slice_get_within}
 use Rattle.kat_design.specs.Designs.{DesignForm}
 use Rattle.kat_decoding.specs.Decoded.{decoded}
-use Rattle.kat_gram.specs.Listings.{GivesNext, Stream, designs_of, given_of, last_number, to_come, with_next}
+use Rattle.kat_gram.specs.Listings.{GivesNext, IsLast, Stream, designs_of, given_of, last_number, numbered, to_come, with_next}
 use Rattle.kat_rules.specs.Listed.{IsListing}
 use Rattle.kat_said.specs.declared.judging.Audit.{Audit}
 use Rattle.kat_type.specs.Limits.{item_limit}
@@ -23,15 +23,42 @@ use Rattle.kat_due.specs.declared.reading.Reading.{Reading}
 use Rattle.kat_audit.proofs.Below.{listed_tryable}
 use Rattle.kat_due.proofs.States.{same_state}
 
--- what a call for the next design tells
-pub next_is : {A D : Type 0} (f : A → D) (old new : List D) (o : Option A) (x : A) → o ≡ Some x → GivesNext old new (option_map f o) → old ≡ f x ∷ new
-next_is f old new o x is given = subst (λ p. GivesNext old new (option_map f p)) is given
+-- what a step to the next design tells, and a look at it
+pub some_next : {D : Type 0} (old new : List D) (b : Bool) → b ≡ true → b ≡ is_some (numbered 1 old) → GivesNext old new (numbered 1 old) → (d : D) × (old ≡ d ∷ new)
+some_next [] new b is more given = absurd (cc)
+some_next (d ∷ ds) new b is more given = (d, given)
 
-pub none_next : {A D : Type 0} (f : A → D) (old new : List D) (o : Option A) → o ≡ None → GivesNext old new (option_map f o) → old ≡ []
-none_next f old new o is given = (subst (λ p. GivesNext old new (option_map f p)) is given).0
+pub none_next : {D : Type 0} (old : List D) (b : Bool) → b ≡ false → b ≡ is_some (numbered 1 old) → old ≡ []
+none_next [] b is more = refl
+none_next (d ∷ ds) b is more = absurd (cc)
 
-pub behind_is : {A D : Type 0} (f : A → D) (old new : List D) (o : Option A) (x : A) → o ≡ Some x → new ≡ with_next old (option_map f o) → new ≡ old ++ f x ∷ []
-behind_is f old new o x is given = subst (λ p. new ≡ with_next old (option_map f p)) is given
+ends_with : {D : Type 0} (ds : List D) (d : D) → ds ++ d ∷ [] ≡ [] → ⊥
+ends_with [] d e = cc
+ends_with (x ∷ ds) d e = cc
+
+pub some_given : {D : Type 0} (old given new : List D) (b : Bool) → b ≡ true → b ≡ is_some (numbered 1 old) → new ≡ with_next given (numbered 1 old) → new ≡ [] → ⊥
+some_given [] given new b is more behind none = absurd (cc)
+some_given (d ∷ ds) given new b is more behind none = ends_with given d (sym behind ∙ none)
+
+abbrev last_or : {D : Type 0} → D → List D → D
+last_or d [] = d
+last_or d (e ∷ es) = last_or e es
+
+last_one : {D : Type 0} (d : D) (ds : List D) (e : D) → last_or d (ds ++ e ∷ []) ≡ e
+last_one d [] e = refl
+last_one d (x ∷ ds) e = last_one x ds e
+
+-- this design was the first of those to come, and is the last one given
+pub record Steps {D : Type 0} (old new given behind : List D) (d : D) : Type 0 where
+  pub next : old ≡ d ∷ new
+  pub given_then : behind ≡ given ++ d ∷ []
+
+pub stepped : {D : Type 0} (old new given behind : List D) (b : Bool) (d : D) → b ≡ true → b ≡ is_some (numbered 1 old) → GivesNext old new (numbered 1 old) → behind ≡ with_next given (numbered 1 old) → IsLast (Some d) behind
+    → Steps old new given behind d
+stepped [] new given behind b d is more gives e last = absurd (cc)
+stepped (x ∷ xs) new given behind b d is more gives e last =
+    let same : x ≡ d = sym (last_one x given x) ∙ ap (last_or x) (sym e ∙ last.1) ∙ last_one x last.0 d in
+    subst (λ (y : _). Steps (x ∷ xs) new given behind y) same (record { next = gives; given_then = e })
 
 pub if_ok : {A E : Type 0} (r : Result A E) (P Q : A → Type 0) → IfOk r P → ((x : A) → P x → Q x) → IfOk r Q
 if_ok (Ok x) P Q p f = f x p

@@ -1,6 +1,7 @@
 //! Auditing a report.
-ghost use Rattle.std.specs.Prelude.{◌≡◌, ◌<◌, ◌-◌, ◌^◌, [], IfOk, length};
-ghost use Rattle.kat_gram.specs.Listings.{designs_of, given_of};
+ghost use Rattle.std.specs.Prelude.{◌≡◌, ◌≢◌, ◌<◌, ◌-◌, ◌^◌, [], IfOk, Some, length};
+ghost use Rattle.kat_design.specs.Designs.{design_form};
+ghost use Rattle.kat_gram.specs.Listings.{IsLast, designs_of, given_of};
 ghost use Rattle.kat_rules.specs.Listed.{IsListing};
 ghost use Rattle.kat_type.specs.Fits.{IsWellSorted};
 ghost use Rattle.kat_type.specs.Signatures.{signature_of};
@@ -12,6 +13,7 @@ ghost use Rattle.kat_due.specs.Readings.{IsFirst};
 use crate::designs::judge_design;
 use crate::last::{judge_end, judge_stopped};
 use crate::options::Options;
+use kat_design::Design;
 use kat_due::Reading;
 use kat_gram::Listing;
 use kat_hist::Trials;
@@ -96,7 +98,7 @@ fn judge_report(
     requires room { length reading.old.left.now < 2 ^ 64 - 1 }
     ensures { IfOk result (IsAudited (type_form ty.now) options.now reading.old.left.now) }
 {
-    'designs: while let Some(design) = listing.next(alloc)? {
+    'designs: while listing.advance(alloc)? {
         if reading.is_over(options.designs) {
             return judge_stopped(alloc, options.size, reading);
         }
@@ -105,7 +107,7 @@ fn judge_report(
             ty,
             sig,
             options.effort,
-            &design,
+            last_given(listing),
             trials,
             reading,
         )? {
@@ -113,4 +115,15 @@ fn judge_report(
         }
     }
     judge_end(alloc, options.size, reading)
+}
+
+/// The design that a listing gave last.
+fn last_given(listing: &Listing) -> &Design
+    requires { given_of listing.now ≢ [] }
+    ensures { IsLast (Some (design_form result.now)) (given_of listing.now) }
+{
+    match listing.last() {
+        Some(design) => design,
+        None => unreachable!(),
+    }
 }
