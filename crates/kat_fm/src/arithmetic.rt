@@ -85,6 +85,18 @@ pub(crate) fn scale(
 pub fn greatest_divisor(a: u128, b: u128) -> u128
     ensures { result ≡ gcd a b }
 {
+    if let (Ok(a), Ok(b)) = (u64::try_from(a), u64::try_from(b)) { return small_gcd(a, b) as u128; }
+    let mut x = a;
+    let mut y = b;
+    while y != 0 {
+        let rest = x % y;
+        x = y;
+        y = rest;
+    }
+    x
+}
+#[inline(always)]
+fn small_gcd(a: u64, b: u64) -> u64 {
     let mut x = a;
     let mut y = b;
     while y != 0 {

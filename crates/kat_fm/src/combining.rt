@@ -68,9 +68,17 @@ pub fn combine(
 {
     let a = plus.at(variable).unsigned_abs();
     let b = minus.at(variable).unsigned_abs();
-    let g = greatest_divisor(a, b);
-    let weights = Weights::new((b / g) as i128, (a / g) as i128);
+    let weights = weights_of(a, b);
     weigh_rows(alloc, &weights, plus, minus, rows, places)
+}
+
+fn weights_of(a: u128, b: u128) -> Weights {
+    if a == 1 && b == 1 {
+        return Weights::new(1, 1);
+    }
+    let g = greatest_divisor(a, b);
+    if g == 1 { return Weights::new(b as i128, a as i128); }
+    Weights::new((b / g) as i128, (a / g) as i128)
 }
 
 /// The numbers of two rows weighed: the coefficients, then the constant, then the multipliers, unless the next round doesn't keep
