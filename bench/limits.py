@@ -52,10 +52,29 @@ def raised(size, relation, third, pieces):
 
 
 def clears(n):
-    """So many fields, each cleared in their order, and the last one again three times for each field: each `clear` looks at all."""
+    """So many fields, each cleared in their order, and the last one again three times for each field."""
     names = [f"f{k:x}" for k in range(n)]
     cleared = [*names, *(names[-1:] * (3 * n))]
     return "type t 2\n" + "".join(f"state {it}:int=0\n" for it in names) + "op o()rank 0:" + ";".join(f"clear {it}" for it in cleared) + "\nquery q():int=1\n"
+
+
+def states(n):
+    return "".join(f"state f{k:x}:int=0\n" for k in range(n))
+
+
+def cleared_last(n):
+    """So many fields and operations, each of which clears the last field."""
+    return "type t 2\n" + states(n) + "".join(f"op o{k:x}()rank 0:clear f{n - 1:x}\n" for k in range(n)) + "query q():int=1\n"
+
+
+def assigned_last(n):
+    """So many fields, the last of which is assigned as often as 400 nodes allow."""
+    return "type t\n" + states(n) + "op o()rank 0:" + ";".join([f"f{n - 1:x}:=1"] * 398) + "\nquery q():int=1\n"
+
+
+def read_last(n):
+    """A query of so many parameters, the last of which is read as often as 400 nodes allow."""
+    return "type t\nstate a:int=0\nop o()rank 0:a:=1\nquery q(" + ",".join(f"p{k:x}:int" for k in range(n)) + "):int=" + "+".join([f"p{n - 1:x}"] * 199) + "\n"
 
 
 def greatest_type():
@@ -176,7 +195,10 @@ INPUTS = [
     ("type: one list of parameters", "list @0 --size 1", WHOLE, lambda n: [up_to(n, "x:int,", "type t\nop f(", "x:int) rank 0: a := 1\n")]),
     ("type: one field, stated again", "list @0 --size 1", WHOLE, lambda n: [up_to(n, "state a:int=0\n", "type t\n", "op f() rank 0: a := 1\nquery q(): int = a\n")]),
     ("type: one number, added again", "list @0 --size 1", WHOLE, lambda n: [up_to(n, "1+", "type t\nop f() rank 0: a := ", "1\n")]),
-    ("type: fields cleared", "list @0 --size 1", (5_000, 20_000), lambda n: [clears(n)]),
+    ("type: fields cleared", "list @0 --size 1", (59_000, 236_000), lambda n: [clears(n)]),
+    ("type: operations, each clears the last field", "list @0 --size 1", (80_000, 320_000), lambda n: [cleared_last(n)]),
+    ("type: the last of many fields, assigned again", "list @0 --size 1", (220_000, 880_000), lambda n: [assigned_last(n)]),
+    ("type: the last of many parameters, read again", "list @0 --size 1", (350_000, 1_400_000), lambda n: [read_last(n)]),
     ("type: at all limits", "model @0 @1", (1, 1), lambda n: [greatest_type(), "replicas 1\ndo 1 o0 1 2 3 4\nask 1 q0 1 2 3 4\n"]),
     ("list: at all limits of a type", "list @0 --size 24 --designs {n}", (250, 1000), lambda n: [greatest_type()]),
     ("list: a cart up to size 24", "list @0 --size 24 --designs {n}", (12_500, 50_000), lambda n: [CART]),

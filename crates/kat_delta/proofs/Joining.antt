@@ -100,7 +100,7 @@ part_end o tells (a_tally effects) ones c e = ap part.Tally (tally_as (tally_wei
 part_end o tells (tallies key effects) ones c e =
     ap part.Tallies (table_as o tells (bumped_key effects) (keyed_weight effects) (told (tallies key effects) ones c) [] (λ k r. sums_end (tallies_tell tells key effects k) r ones c e))
 
--- what some own operations tell, with one more of them
+-- what some own operations tell, with more of them
 two_greater : (a b c d : ℕ) → a ≡ c → b ≡ d → max a b ≡ max c d
 two_greater a b c d e f = cc
 
@@ -111,26 +111,26 @@ either_told false true s = omega arith
 either_told false false s = refl
 
 told_more : (weight : Done → ℕ) (active : Done → Bool) (r : ℕ) (own : List Done) (of : List Done → List Done) → ((late : List Done) → sum_done weight r (of late) ≡ cond (list_any active late) (sum_done weight r own) 0)
-    → (late : List Done) (x : Done) → max (sum_done weight r (of late)) (sum_done weight r (of (x ∷ []))) ≡ sum_done weight r (of (late ++ x ∷ []))
-told_more weight active r own of sums late x =
-    two_greater _ _ (cond (list_any active late) (sum_done weight r own) 0) (cond (list_any active (x ∷ [])) (sum_done weight r own) 0) (sums late) (sums (x ∷ []))
-    ∙ either_told (list_any active late) (list_any active (x ∷ [])) (sum_done weight r own)
-    ∙ ap (λ b. cond b (sum_done weight r own) 0) (sym (list_any-append active late (x ∷ [])))
-    ∙ sym (sums (late ++ x ∷ []))
+    → (late more : List Done) → max (sum_done weight r (of late)) (sum_done weight r (of more)) ≡ sum_done weight r (of (late ++ more))
+told_more weight active r own of sums late more =
+    two_greater _ _ (cond (list_any active late) (sum_done weight r own) 0) (cond (list_any active more) (sum_done weight r own) 0) (sums late) (sums more)
+    ∙ either_told (list_any active late) (list_any active more) (sum_done weight r own)
+    ∙ ap (λ b. cond b (sum_done weight r own) 0) (sym (list_any-append active late more))
+    ∙ sym (sums (late ++ more))
 
-part_late_more : IsTotalOrder value_order → TellsApart value_order → (ops : List OpSig) (component : ComponentForm) → IsComponent ops component → (late own : List Done) (x : Done)
-    → part_joined (late_part component late own) (late_part component (x ∷ []) own) ≡ late_part component (late ++ x ∷ []) own
-part_late_more o tells ops (a_cell shape starts effects) is late own x = ap part.Cell (sym (denotation-append (cell_effects shape starts effects) (cells_are shape starts effects is.0) late (x ∷ [])))
-part_late_more o tells ops (a_table key shape starts effects) is late own x = ap part.Table (sym (denotation-append (table_effects shape starts effects) (tables_are o tells shape starts effects is.1) late (x ∷ [])))
-part_late_more o tells ops (a_set key effects) is late own x = ap part.Set (sym (denotation-append (set_effects value_order (added_key effects)) (sets_are value_order o tells (added_key effects)) late (x ∷ [])))
-part_late_more o tells ops (a_tally effects) is late own x =
+part_late_more : IsTotalOrder value_order → TellsApart value_order → (ops : List OpSig) (component : ComponentForm) → IsComponent ops component → (late more own : List Done)
+    → part_joined (late_part component late own) (late_part component more own) ≡ late_part component (late ++ more) own
+part_late_more o tells ops (a_cell shape starts effects) is late more own = ap part.Cell (sym (denotation-append (cell_effects shape starts effects) (cells_are shape starts effects is.0) late more))
+part_late_more o tells ops (a_table key shape starts effects) is late more own = ap part.Table (sym (denotation-append (table_effects shape starts effects) (tables_are o tells shape starts effects is.1) late more))
+part_late_more o tells ops (a_set key effects) is late more own = ap part.Set (sym (denotation-append (set_effects value_order (added_key effects)) (sets_are value_order o tells (added_key effects)) late more))
+part_late_more o tells ops (a_tally effects) is late more own =
     let of : List Done → List Done = λ l. told_by (a_tally effects) l own in
-    ap part.Tally (tallies_join_as (tally_weight effects) (of late) (of (x ∷ [])) (of (late ++ x ∷ []))
-    (λ r. told_more (tally_weight effects) (acts effects) r own of (λ l. all_or_none (list_any (acts effects) l) (tally_weight effects) r own) late x))
-part_late_more o tells ops (tallies key effects) is late own x =
+    ap part.Tally (tallies_join_as (tally_weight effects) (of late) (of more) (of (late ++ more))
+    (λ r. told_more (tally_weight effects) (acts effects) r own of (λ l. all_or_none (list_any (acts effects) l) (tally_weight effects) r own) late more))
+part_late_more o tells ops (tallies key effects) is late more own =
     let of : List Done → List Done = λ l. told_by (tallies key effects) l own in
-    ap part.Tallies (tables_join_as o tells (bumped_key effects) (keyed_weight effects) (of late) (of (x ∷ [])) (of (late ++ x ∷ []))
-    (λ k r. told_more (weight_there effects k) (acts_there effects k) r own of (λ l. kept_sum tells (bumped_key effects) (keyed_weight effects) (act_at effects l) k r own) late x))
+    ap part.Tallies (tables_join_as o tells (bumped_key effects) (keyed_weight effects) (of late) (of more) (of (late ++ more))
+    (λ k r. told_more (weight_there effects k) (acts_there effects k) r own of (λ l. kept_sum tells (bumped_key effects) (keyed_weight effects) (act_at effects l) k r own) late more))
 
 -- none of them tell nothing, and those after the first c tell what the delta from there tells
 never_kept : (own : List Done) → filter (λ (one : Done). false) own ≡ []
@@ -179,10 +179,10 @@ states_kin o tells ops [] is ones all c = tt
 states_kin o tells ops (component ∷ components) is ones all c =
     ((component_means o tells ops component is.0).goes (told component ones c) all, states_kin o tells ops components is.1 ones all c)
 
-pub late_more : IsTotalOrder value_order → TellsApart value_order → (ops : List OpSig) (components : List ComponentForm) → EachHas (IsComponent ops) components → (late own : List Done) (x : Done)
-    → parts_joined (map (λ component. late_part component late own) components) (map (λ component. late_part component (x ∷ []) own) components) ≡ map (λ component. late_part component (late ++ x ∷ []) own) components
-late_more o tells ops [] is late own x = refl
-late_more o tells ops (component ∷ components) is late own x = two _ _ _ _ (part_late_more o tells ops component is.0 late own x) (late_more o tells ops components is.1 late own x)
+pub late_more : IsTotalOrder value_order → TellsApart value_order → (ops : List OpSig) (components : List ComponentForm) → EachHas (IsComponent ops) components → (late more own : List Done)
+    → parts_joined (map (λ component. late_part component late own) components) (map (λ component. late_part component more own) components) ≡ map (λ component. late_part component (late ++ more) own) components
+late_more o tells ops [] is late more own = refl
+late_more o tells ops (component ∷ components) is late more own = two _ _ _ _ (part_late_more o tells ops component is.0 late more own) (late_more o tells ops components is.1 late more own)
 
 pub late_none : (components : List ComponentForm) (own : List Done) → map (λ component. late_part component [] own) components ≡ states_of (map component_meaning components) []
 late_none [] own = refl

@@ -15,46 +15,15 @@ use Rattle.kat_type.specs.Unions.{AreNested, united}
 use Rattle.kat_design.specs.declared.states.Part.{Part}
 use Rattle.kat_type.proofs.Unions.{once_united}
 use Rattle.kat_replica.specs.declared.replicas.Packet.{Packet}
-use Rattle.kat_delta.specs.Carrying.{late_of}
 use Rattle.kat_delta.specs.Deltas.{delta_of}
 use Rattle.kat_delta.specs.Standing.{AreOwn, AreWithin, CarriesDelta, CarriesWhole, MayTake, MayTakeWhole, StandsFor, count_at}
 use Rattle.kat_delta.specs.declared.replicas.DeltaPacket.{DeltaPacket}
 use Rattle.kat_delta.specs.declared.replicas.DeltaReplica.{DeltaReplica}
 use Rattle.kat_delta.proofs.Counting.{counts_each, counts_greater, counts_more, mine_of, nested_at, once_by_time, once_more, own_count, own_more, own_united, put_count, within_more, within_united}
-use Rattle.kat_delta.proofs.Joining.{late_all, late_more, late_none, states_join}
-
--- what the operations after the first so many give
-below_min : (i n m : ℕ) → i < n → m ≡ min i n → m ≡ i
-below_min i n m l e = omega arith
+use Rattle.kat_delta.proofs.Joining.{states_join}
 
 pub two_parts : (a b c d : List Part) → a ≡ c → b ≡ d → parts_joined a b ≡ parts_joined c d
 two_parts a b c d e f = cc
-
-up_to : (from i n : ℕ) → from ≤ i → n ≡ i → from ≤ n
-up_to from i n l e = omega arith
-
-pub late_step : IsTotalOrder value_order → TellsApart value_order → (d : DesignForm) → IsWellSorted d → (own : List Done) (from i : ℕ) (x : Done) → from ≤ i → i < length own → x ≡ get_or own i x → (sum entry next : List Part)
-    → sum ≡ late_of d (drop from (take i own)) own → entry ≡ late_of d (x ∷ []) own → next ≡ parts_joined sum entry → next ≡ late_of d (drop from (take (i + 1) own)) own
-late_step o tells d sorted own from i x low high read sum entry next is_sum is_entry is =
-    let ones = take i own in
-    let same : take (i + 1) own ≡ ones ++ x ∷ [] = take_more own i x high ∙ ap (λ (y : Done). ones ++ y ∷ []) (sym read) in
-    let size : length ones ≡ i = below_min i (length own) (length ones) high (length-take i own) in
-    is
-    ∙ two_parts sum entry (late_of d (drop from ones) own) (late_of d (x ∷ []) own) is_sum is_entry
-    ∙ late_more o tells d.sig.ops d.components sorted.components (drop from ones) own x
-    ∙ ap (λ (late : List Done). late_of d late own) (sym (drop-append-le from ones (x ∷ []) (up_to from i (length ones) low size)))
-    ∙ ap (λ (all : List Done). late_of d (drop from all) own) (sym same)
-
-min_left : (i n m : ℕ) → m ≡ min i n → m ≤ i
-min_left i n m e = omega arith
-
-pub late_start : (d : DesignForm) (own : List Done) (from : ℕ) (sum : List Part) → sum ≡ denotation_of d [] → sum ≡ late_of d (drop from (take from own)) own
-late_start d own from sum is =
-    is ∙ sym (late_none d.components own)
-    ∙ ap (λ (late : List Done). late_of d late own) (sym (drop_all from (take from own) (min_left from (length own) (length (take from own)) (length-take from own))))
-
-pub late_end : (d : DesignForm) (own : List Done) (from n : ℕ) (sum : List Part) → sum ≡ late_of d (drop from (take n own)) own → length own ≤ n → sum ≡ delta_of d own from
-late_end d own from n sum is l = is ∙ ap (λ (ones : List Done). late_of d (drop from ones) own) (take_all n own l) ∙ late_all d.components own from
 
 -- the count of its own operations
 pub own_counted : (d : DesignForm) (replica : DeltaReplica) (own all : List Done) → StandsFor d replica own all → 1 ≤ replica.number → replica.number ≤ length replica.counts.items

@@ -1,6 +1,6 @@
 pub mod Deltas
-pub mod Carrying
 pub mod Standing
+pub mod Carrying
 pub mod Gaps
 pub mod Spans
 pub mod Worlds

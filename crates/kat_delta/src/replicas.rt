@@ -1,5 +1,5 @@
 //! Replicas that ship deltas, and their packets.
-ghost use Rattle.std.specs.Prelude.{◌≡◌, ◌<◌, ◌≤◌, ◌+◌, ◌-◌, ◌^◌, ◌++◌, ◌∷◌, [], true, max, All, IfOk, OnErr, OnOk, List, length, slice_set, ℕ};
+ghost use Rattle.std.specs.Prelude.{◌≡◌, ◌<◌, ◌≤◌, ◌+◌, ◌-◌, ◌^◌, ◌++◌, ◌∷◌, [], true, max, All, IfOk, OnErr, OnOk, List, drop, length, slice_set, ℕ};
 ghost use Rattle.std.specs.List.{list_all, slice_index_or};
 ghost use Rattle.kat_design.specs.Denotations.{denotation_of, design_meaning};
 ghost use Rattle.kat_design.specs.Designs.{DesignForm, design_form};
@@ -14,9 +14,9 @@ ghost use Rattle.kat_delta.specs.Gaps.{TellsGap};
 ghost use Rattle.kat_delta.specs.Spans.{HasTaken};
 ghost use Rattle.kat_delta.specs.Standing.{CarriesDelta, CarriesWhole, IsAsBefore, MayTake, MayTakeWhole, StandsFor, count_at};
 
-use crate::entry::entry_of;
+use crate::entry::entries_of;
 use crate::errors::DeltaError;
-use kat_design::{Design, State, states_go_together};
+use kat_design::{Design, State};
 use kat_replica::{Packet, Replica};
 use kat_shape::tells_values_apart;
 use kat_type::Done;
@@ -135,13 +135,8 @@ impl DeltaReplica {
         ensures from { IfOk result (λ packet. packet.from ≡ from) }
         ensures to { IfOk result (λ packet. packet.to ≡ count_at self.now.counts.items self.now.number) }
     {
-        tells_values_apart();
-        states_go_together();
-        let mut sum = Replica::new(alloc, design)?;
-        for i in from as usize..self.log.len() {
-            let entry = entry_of(alloc, design, &self.base.state, &self.log[i])?;
-            sum.take_in(alloc, 0, &entry)?;
-        }
+        let ones = after(&self.log, from as usize);
+        let sum = entries_of(alloc, design, &self.base.state, ones)?;
         Ok(DeltaPacket {
             clock: self.base.clock,
             origin: self.number,
@@ -203,6 +198,14 @@ impl DeltaReplica {
         raise_each(&mut self.counts, counts);
         Ok(())
     }
+}
+
+/// The operations after the first so many.
+fn after(log: &[Done], from: usize) -> &[Done]
+    requires { from ≤ length log.now }
+    ensures { result.now ≡ drop from log.now }
+{
+    &log[from..]
 }
 
 /// The greater of two counts.

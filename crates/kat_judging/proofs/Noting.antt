@@ -4,25 +4,26 @@ use Rattle.std.specs.Prelude.{not, ◌==◌}
 use Rattle.std.specs.Ordering.{nat_cmp}
 use Rattle.std.specs.BTreeSet.{BTreeSet, contains}
 use Rattle.std.proofs.lemmas.List.{drop_all}
+use Rattle.kat_grammar.specs.declared.phrases.State.{State}
 use Rattle.kat_grammar.specs.declared.phrases.Word.{Word}
 use Rattle.kat_type.specs.Names.{is_among}
-use Rattle.kat_judging.specs.Faults.{earlier, fault_if, first_of, twice_among}
-use Rattle.kat_judging.specs.Seen.{HasCodes, Sees, behind}
+use Rattle.kat_judging.specs.Faults.{earlier, fault_if, field_codes, first_of, twice_among}
+use Rattle.kat_judging.specs.Seen.{Sees, behind}
 use Rattle.kat_judging.specs.declared.faults.Fault.{Fault}
 use Rattle.kat_judging.proofs.Firsts.{earlier_assoc, earlier_none, first_append}
 
 -- what is left gives what the whole list gives
-pub record Noted (others own : BTreeSet ℕ) (before : List ℕ) (whole left : List Word) (first : Option Fault) : Type 0 where
+pub record Noted (states : List State) (own : BTreeSet ℕ) (before : List ℕ) (whole left : List Word) (first : Option Fault) : Type 0 where
   pub codes : List ℕ
-  pub sees : Sees others own codes
+  pub sees : Sees states own codes
   pub fault : earlier first (first_of (twice_among codes left)) ≡ first_of (twice_among before whole)
   pub names : behind codes left ≡ behind before whole
 
-abbrev pub AllNoted : BTreeSet ℕ → BTreeSet ℕ → BTreeSet ℕ → List Word → List Word → Option Fault → Type 0
-AllNoted others first_own own whole left first = (before : List ℕ) → Sees others first_own before → Noted others own before whole left first
+abbrev pub AllNoted : List State → BTreeSet ℕ → BTreeSet ℕ → List Word → List Word → Option Fault → Type 0
+AllNoted states first_own own whole left first = (before : List ℕ) → Sees states first_own before → Noted states own before whole left first
 
-pub noted_start : (others own : BTreeSet ℕ) (words : List Word) → AllNoted others own own words words None
-noted_start others own words before s = record { codes = before; sees = s; fault = refl; names = refl }
+pub noted_start : (states : List State) (own : BTreeSet ℕ) (words : List Word) → AllNoted states own own words words None
+noted_start states own words before s = record { codes = before; sees = s; fault = refl; names = refl }
 
 twice_not : (a b : Bool) → not (not a) || b ≡ a || b
 twice_not true b = refl
@@ -32,19 +33,19 @@ or_turned : (a b c : Bool) → a || (b || c) ≡ (a || b) || c
 or_turned true b c = refl
 or_turned false b c = refl
 
-pub noted_next : (others first_own own own' : BTreeSet ℕ) (whole rest : List Word) (w : Word) (first first' : Option Fault) (again fresh : Bool)
-    → AllNoted others first_own own whole (w ∷ rest) first → again ≡ contains nat_cmp others w.code → fresh ≡ not (contains nat_cmp own w.code)
+pub noted_next : (states : List State) (first_own own own' : BTreeSet ℕ) (whole rest : List Word) (w : Word) (first first' : Option Fault) (again fresh : Bool)
+    → AllNoted states first_own own whole (w ∷ rest) first → again ≡ is_among (field_codes states) w.code → fresh ≡ not (contains nat_cmp own w.code)
     → ((q : ℕ) → contains nat_cmp own' q ≡ (w.code == q) || contains nat_cmp own q)
-    → first' ≡ earlier first (first_of (fault_if (not fresh || again) 6 w.at)) → AllNoted others first_own own' whole rest first'
-noted_next others first_own own own' whole rest w first first' again fresh all is new grows next before s =
+    → first' ≡ earlier first (first_of (fault_if (not fresh || again) 6 w.at)) → AllNoted states first_own own' whole rest first'
+noted_next states first_own own own' whole rest w first first' again fresh all is new grows next before s =
     let n = all before s in
     let broken : not fresh || again ≡ is_among n.codes w.code =
     ap (λ b. not b || again) new ∙ ap (λ b. not (not (contains nat_cmp own w.code)) || b) is
-    ∙ twice_not (contains nat_cmp own w.code) (contains nat_cmp others w.code) ∙ sym (n.sees w.code) in
+    ∙ twice_not (contains nat_cmp own w.code) (is_among (field_codes states) w.code) ∙ sym (n.sees w.code) in
     record {
       codes = w.code ∷ n.codes;
-      sees = λ q. ap (λ b. (w.code == q) || b) (n.sees q) ∙ or_turned (w.code == q) (contains nat_cmp own q) (contains nat_cmp others q)
-          ∙ ap (λ b. b || contains nat_cmp others q) (sym (grows q));
+      sees = λ q. ap (λ b. (w.code == q) || b) (n.sees q) ∙ or_turned (w.code == q) (contains nat_cmp own q) (is_among (field_codes states) q)
+          ∙ ap (λ b. b || is_among (field_codes states) q) (sym (grows q));
       fault =
           ap (λ f. earlier f (first_of (twice_among (w.code ∷ n.codes) rest))) (next ∙ ap (λ b. earlier first (first_of (fault_if b 6 w.at))) broken)
           ∙ sym (earlier_assoc first (first_of (fault_if (is_among n.codes w.code) 6 w.at)) (first_of (twice_among (w.code ∷ n.codes) rest)))
@@ -59,61 +60,36 @@ pub names_left : {T : Type 0} (word : T → Word) (xs : List T) (i : ℕ) (x : T
 names_left word xs i x lt is =
     ap (λ ys. map word ys) (drop-cons xs i x lt ∙ ap (λ y. y ∷ drop (suc i) xs) (sym is)) ∙ ap (λ k. word x ∷ map word (drop k xs)) (sym (add-one i))
 
-pub noted_on : {T : Type 0} (word : T → Word) (others first_own own own' : BTreeSet ℕ) (xs : List T) (i : ℕ) (x : T) (w : Word) (first first' : Option Fault) (again fresh : Bool)
-    → AllNoted others first_own own (map word xs) (map word (drop i xs)) first → i < length xs → x ≡ get_or xs i x → w ≡ word x
-    → again ≡ contains nat_cmp others w.code → fresh ≡ not (contains nat_cmp own w.code)
+pub noted_on : {T : Type 0} (word : T → Word) (states : List State) (first_own own own' : BTreeSet ℕ) (xs : List T) (i : ℕ) (x : T) (w : Word) (first first' : Option Fault) (again fresh : Bool)
+    → AllNoted states first_own own (map word xs) (map word (drop i xs)) first → i < length xs → x ≡ get_or xs i x → w ≡ word x
+    → again ≡ is_among (field_codes states) w.code → fresh ≡ not (contains nat_cmp own w.code)
     → ((q : ℕ) → contains nat_cmp own' q ≡ (w.code == q) || contains nat_cmp own q)
-    → first' ≡ earlier first (first_of (fault_if (not fresh || again) 6 w.at)) → AllNoted others first_own own' (map word xs) (map word (drop (i + 1) xs)) first'
-noted_on word others first_own own own' xs i x w first first' again fresh all lt is named =
-    noted_next others first_own own own' (map word xs) (map word (drop (i + 1) xs)) w first first' again fresh
-    (subst (λ (left : List Word). AllNoted others first_own own (map word xs) left first) (names_left word xs i x lt is ∙ ap (λ v. v ∷ map word (drop (i + 1) xs)) (sym named)) all)
+    → first' ≡ earlier first (first_of (fault_if (not fresh || again) 6 w.at)) → AllNoted states first_own own' (map word xs) (map word (drop (i + 1) xs)) first'
+noted_on word states first_own own own' xs i x w first first' again fresh all lt is named =
+    noted_next states first_own own own' (map word xs) (map word (drop (i + 1) xs)) w first first' again fresh
+    (subst (λ (left : List Word). AllNoted states first_own own (map word xs) left first) (names_left word xs i x lt is ∙ ap (λ v. v ∷ map word (drop (i + 1) xs)) (sym named)) all)
 
-pub noted_first : {T : Type 0} (word : T → Word) (others first_own own : BTreeSet ℕ) (xs : List T) (i : ℕ) (first : Option Fault)
-    → AllNoted others first_own own (map word xs) (map word (drop i xs)) first → length xs ≤ i
-    → (before : List ℕ) → Sees others first_own before → first ≡ first_of (twice_among before (map word xs))
-noted_first word others first_own own xs i first all le before s =
+pub noted_first : {T : Type 0} (word : T → Word) (states : List State) (first_own own : BTreeSet ℕ) (xs : List T) (i : ℕ) (first : Option Fault)
+    → AllNoted states first_own own (map word xs) (map word (drop i xs)) first → length xs ≤ i
+    → (before : List ℕ) → Sees states first_own before → first ≡ first_of (twice_among before (map word xs))
+noted_first word states first_own own xs i first all le before s =
     let n = all before s in
     earlier_none first ∙ ap (λ ys. earlier first (first_of (twice_among n.codes (map word ys)))) (sym (drop_all i xs le)) ∙ n.fault
 
-pub noted_names : {T : Type 0} (word : T → Word) (others first_own own : BTreeSet ℕ) (xs : List T) (i : ℕ) (first : Option Fault)
-    → AllNoted others first_own own (map word xs) (map word (drop i xs)) first → length xs ≤ i
-    → (before : List ℕ) → Sees others first_own before → Sees others own (behind before (map word xs))
-noted_names word others first_own own xs i first all le before s =
+pub noted_names : {T : Type 0} (word : T → Word) (states : List State) (first_own own : BTreeSet ℕ) (xs : List T) (i : ℕ) (first : Option Fault)
+    → AllNoted states first_own own (map word xs) (map word (drop i xs)) first → length xs ≤ i
+    → (before : List ℕ) → Sees states first_own before → Sees states own (behind before (map word xs))
+noted_names word states first_own own xs i first all le before s =
     let n = all before s in
-    subst (λ (codes : List ℕ). Sees others own codes) (ap (λ ys. behind n.codes (map word ys)) (sym (drop_all i xs le)) ∙ n.names) n.sees
+    subst (λ (codes : List ℕ). Sees states own codes) (ap (λ ys. behind n.codes (map word ys)) (sym (drop_all i xs le)) ∙ n.names) n.sees
 
--- the codes of a list of words, and those after others
-among_behind : (before : List ℕ) (words : List Word) (q : ℕ) → is_among (behind before words) q ≡ is_among (map (λ (w : Word). w.code) words) q || is_among before q
-among_behind before [] q = refl
-among_behind before (w ∷ words) q =
-    among_behind (w.code ∷ before) words q ∙ swapped (w.code == q) (is_among (map (λ (v : Word). v.code) words) q) (is_among before q) where
-      swapped : (a b c : Bool) → b || (a || c) ≡ (a || b) || c
-      swapped true true c = refl
-      swapped true false c = refl
-      swapped false b c = refl
+-- no fields, and a set without names, have none together
+pub sees_nothing : (states : List State) (own : BTreeSet ℕ) → states ≡ [] → ((q : ℕ) → contains nat_cmp own q ≡ false) → Sees states own []
+sees_nothing states own none empty q = sym (ap (λ b. b || is_among (field_codes states) q) (empty q) ∙ ap (λ ss. is_among (field_codes ss) q) none)
 
--- two sets without names have none together
-pub sees_nothing : (others own : BTreeSet ℕ) → ((q : ℕ) → contains nat_cmp others q ≡ false) → ((q : ℕ) → contains nat_cmp own q ≡ false) → Sees others own []
-sees_nothing others own nothing empty q = sym (ap (λ b. b || contains nat_cmp others q) (empty q) ∙ nothing q)
-
--- a set in which a list's names were noted, and nothing before, has their codes
-pub has_noted : {T : Type 0} (word : T → Word) (none first_own own : BTreeSet ℕ) (xs : List T)
-    → ((q : ℕ) → contains nat_cmp none q ≡ false) → ((q : ℕ) → contains nat_cmp first_own q ≡ false)
-    → ((before : List ℕ) → Sees none first_own before → Sees none own (behind before (map word xs)))
-    → HasCodes own (map (λ x. (word x).code) xs)
-has_noted word none first_own own xs nothing empty noted q =
-    ap (λ codes. is_among codes q) (codes_again word xs)
-    ∙ sym (or_false (is_among (map (λ (w : Word). w.code) (map word xs)) q))
-    ∙ sym (among_behind [] (map word xs) q)
-    ∙ noted [] (sees_nothing none first_own nothing empty) q
-    ∙ ap (λ b. contains nat_cmp own q || b) (nothing q) ∙ or_false (contains nat_cmp own q) where
-      or_false : (b : Bool) → b || false ≡ b
-      or_false true = refl
-      or_false false = refl
-
-      codes_again : {T : Type 0} (word : T → Word) (xs : List T) → map (λ x. (word x).code) xs ≡ map (λ (w : Word). w.code) (map word xs)
-      codes_again word [] = refl
-      codes_again word (x ∷ xs) = ap (λ codes. (word x).code ∷ codes) (codes_again word xs)
+-- fields, and a set without names, have those of the fields
+pub sees_fields : (states : List State) (own : BTreeSet ℕ) → ((q : ℕ) → contains nat_cmp own q ≡ false) → Sees states own (field_codes states)
+sees_fields states own empty q = sym (ap (λ b. b || is_among (field_codes states) q) (empty q))
 
 -- words of two lists, one after the other
 pub twice_append : (before : List ℕ) (xs ys : List Word)

@@ -3,12 +3,14 @@
 use Rattle.std.specs.Prelude.{◌≡◌, ◌||◌, ℕ, List, [], ◌∷◌}
 use Rattle.std.specs.Ordering.{nat_cmp}
 use Rattle.std.specs.BTreeSet.{BTreeSet, contains}
+use Rattle.kat_grammar.specs.declared.phrases.State.{State}
 use Rattle.kat_grammar.specs.declared.phrases.Word.{Word}
 use Rattle.kat_type.specs.Names.{is_among}
+use Rattle.kat_judging.specs.Faults.{field_codes}
 
--- two sets together have these codes
-abbrev pub Sees : BTreeSet ℕ → BTreeSet ℕ → List ℕ → Type 0
-Sees others own codes = (code : ℕ) → is_among codes code ≡ contains nat_cmp own code || contains nat_cmp others code
+-- a set and the names of fields together are these codes
+abbrev pub Sees : List State → BTreeSet ℕ → List ℕ → Type 0
+Sees states own codes = (code : ℕ) → is_among codes code ≡ contains nat_cmp own code || is_among (field_codes states) code
 
 -- the codes of the words too
 abbrev pub behind : List ℕ → List Word → List ℕ

@@ -1,33 +1,22 @@
 //! Names of fields and parameters, and starts.
 ghost use Rattle.std.specs.Prelude.{◌≡◌, IfOk};
 ghost use Rattle.std.specs.List.{flat_map};
-ghost use Rattle.kat_judging.specs.Faults.{field_codes, first_of, param_faults, start_faults, state_faults};
-ghost use Rattle.kat_judging.specs.Seen.{HasCodes};
+ghost use Rattle.kat_judging.specs.Faults.{first_of, param_faults, start_faults, state_faults};
 
 use crate::faults::{Fault, earlier, fault_if};
 use crate::found::{Found, accepts};
+use crate::index::FieldIndex;
 use crate::judging::constant_start;
 use crate::seen::{first_again, no_names};
 use crate::sorts::{constant_sort, kept_sort};
 use kat_grammar::{Parameter, State};
 use std::alloc::{AllocError, Global};
-use std::collections::BTreeSet;
-
-/// The names of all fields, by their codes.
-pub fn field_names(alloc: Global, states: &[State]) -> Result<BTreeSet<u128>, AllocError>
-    ensures { IfOk result (λ names. HasCodes names (field_codes states.now)) }
-{
-    let none = no_names(alloc);
-    let mut names = no_names(alloc);
-    first_again(&none, &mut names, states)?;
-    Ok(names)
-}
 
 /// The first fault of the fields: their names differ, and each start has the sort of its field.
 pub fn states_fault(alloc: Global, states: &[State]) -> Result<Option<Fault>, AllocError>
     ensures { IfOk result (λ fault. fault ≡ first_of (state_faults states.now)) }
 {
-    let none = no_names(alloc);
+    let none = FieldIndex::new(alloc, &[])?;
     let mut names = no_names(alloc);
     let twice = first_again(&none, &mut names, states)?;
     Ok(earlier(twice, starts_fault(states)))
@@ -55,18 +44,14 @@ fn start_fault(state: &State) -> Option<Fault>
     )
 }
 
-/// The first name of a parameter that is among the fields or the parameters before it. `fields` has to be what
-/// [`field_names`] gives for the states.
+/// The first name of a parameter that is among the fields or the parameters before it.
 pub fn params_fault(
     alloc: Global,
-    states: &[State],
-    fields: &BTreeSet<u128>,
+    states: &FieldIndex,
     params: &[Parameter],
 ) -> Result<Option<Fault>, AllocError>
-    requires { HasCodes fields.now (field_codes states.now) }
     ensures { IfOk result (λ fault. fault ≡ first_of (param_faults states.now params.now)) }
 {
-    let _states = states;
     let mut own = no_names(alloc);
-    first_again(fields, &mut own, params)
+    first_again(states, &mut own, params)
 }

@@ -8,6 +8,7 @@ ghost use Rattle.kat_judging.specs.KnownSorts.{two_found};
 
 use crate::faults::{Fault, earlier, fault_if};
 use crate::found::{Family, Found, accepts, found_family, two_found};
+use crate::index::FieldIndex;
 use crate::names::{Declared, first_named};
 use crate::sorts::{constant_sort, operator_found, table_found, word_found};
 use kat_grammar::{Constant, Kept, Operator, Parameter, Phrase, State, Word};
@@ -23,7 +24,7 @@ pub struct Judged {
 
 /// Judges an expression among the fields of a type and the parameters of an item.
 #[tactic(auto, using(crate::proofs::Firsts::first_append))]
-pub fn judge(states: &[State], params: &[Parameter], phrase: &Phrase) -> Judged
+pub fn judge(states: &FieldIndex, params: &[Parameter], phrase: &Phrase) -> Judged
     ensures found { result.found ≡ found_of (scope_of states.now params.now) (form_of phrase.now) }
     ensures start { result.start ≡ start_of (form_of phrase.now) }
     ensures fault { result.fault ≡ first_of (form_faults (scope_of states.now params.now) (form_of phrase.now)) }
@@ -101,7 +102,7 @@ pub fn constant_start(constant: Constant) -> usize
 }
 
 /// A word means a parameter, or else a field that is no table.
-fn judge_word(states: &[State], params: &[Parameter], word: Word) -> Judged
+fn judge_word(states: &FieldIndex, params: &[Parameter], word: Word) -> Judged
     ensures found { result.found ≡ word_found (param_named (scope_of states.now params.now) word.code)
         (field_named (scope_of states.now params.now) word.code) }
     ensures start { result.start ≡ word.at }
@@ -109,7 +110,7 @@ fn judge_word(states: &[State], params: &[Parameter], word: Word) -> Judged
         (field_named (scope_of states.now params.now) word.code) word.at) }
 {
     let param = first_named(params, word.code);
-    let field = first_named(states, word.code);
+    let field = states.named(word.code);
     Judged {
         found: word_found(param, field),
         start: word.at,
@@ -143,13 +144,13 @@ pub(crate) fn is_table(kept: Kept) -> bool
 }
 
 /// A table at a key.
-fn judge_entry(states: &[State], params: &[Parameter], table: Word, key: Word) -> Judged
+fn judge_entry(states: &FieldIndex, params: &[Parameter], table: Word, key: Word) -> Judged
     ensures found { result.found ≡ table_found (field_named (scope_of states.now params.now) table.code) }
     ensures start { result.start ≡ table.at }
     ensures fault { result.fault ≡ first_of (entry_faults (scope_of states.now params.now) table key) }
 {
     Judged {
-        found: table_found(first_named(states, table.code)),
+        found: table_found(states.named(table.code)),
         start: table.at,
         fault: entry_fault(states, params, table, key),
     }
@@ -157,14 +158,14 @@ fn judge_entry(states: &[State], params: &[Parameter], table: Word, key: Word) -
 
 /// The first fault of a table at a key: it needs a field that is a table, and a parameter of exactly its key sort.
 pub(crate) fn entry_fault(
-    states: &[State],
+    states: &FieldIndex,
     params: &[Parameter],
     table: Word,
     key: Word,
 ) -> Option<Fault>
     ensures { result ≡ first_of (entry_faults (scope_of states.now params.now) table key) }
 {
-    let field = first_named(states, table.code);
+    let field = states.named(table.code);
     let param = first_named(params, key.code);
     earlier(
         table_fault(field, table.at),

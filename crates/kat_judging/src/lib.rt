@@ -7,6 +7,7 @@ mod assigning;
 mod faults;
 mod fields;
 mod found;
+mod index;
 mod items;
 mod judging;
 mod names;
@@ -15,8 +16,9 @@ mod sorts;
 
 pub use assigning::{act_word, assignment_fault};
 pub use faults::{Fault, earlier, fault_if};
-pub use fields::{field_names, params_fault, states_fault};
+pub use fields::{params_fault, states_fault};
 pub use found::{Family, Found, family_of, two_found};
+pub use index::FieldIndex;
 pub use items::{assignments_fault, query_fault};
 pub use judging::{Judged, asked, constant_start, is_other_family, is_truths, judge};
 pub use names::{Declared, Named, first_named};

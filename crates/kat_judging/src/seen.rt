@@ -6,6 +6,7 @@ ghost use Rattle.kat_judging.specs.Faults.{first_of, twice_among};
 ghost use Rattle.kat_judging.specs.Seen.{Sees, behind};
 
 use crate::faults::{Fault, earlier, fault_if};
+use crate::index::FieldIndex;
 use crate::names::Named;
 use std::alloc::{AllocError, Global};
 use std::collections::BTreeSet;
@@ -18,18 +19,11 @@ pub fn no_names(alloc: Global) -> BTreeSet<u128>
 }
 
 /// Notes a name, and says whether it is new.
-fn note(seen: &mut BTreeSet<u128>, code: u128) -> Result<bool, AllocError>
+pub(crate) fn note(seen: &mut BTreeSet<u128>, code: u128) -> Result<bool, AllocError>
     ensures new { IfOk result (λ new. new ≡ not (contains nat_cmp seen.old code)) }
     ensures noted { OnOk result ((other : ℕ) → contains nat_cmp seen.new other ≡ (code == other) || contains nat_cmp seen.old other) }
 {
     Ok(seen.insert(code)?)
-}
-
-/// Whether a name is noted.
-fn is_noted(seen: &BTreeSet<u128>, code: u128) -> bool
-    ensures { result ≡ contains nat_cmp seen.now code }
-{
-    seen.contains(&code)
 }
 
 /// Whether a name was there, among the own ones or the others.
@@ -39,21 +33,21 @@ fn is_again(new: bool, other: bool) -> bool
     !new || other
 }
 
-/// The fault of the first name of a list that is among others or among the own ones before it; all are noted among the own ones.
+/// The fault of the first name of a list that a field has or that is among the own ones before it; all are noted among the own ones.
 pub fn first_again<T: Named>(
-    others: &BTreeSet<u128>,
+    fields: &FieldIndex,
     own: &mut BTreeSet<u128>,
     list: &[T],
 ) -> Result<Option<Fault>, AllocError>
-    ensures first { IfOk result (λ first. (before : List ℕ) → Sees others.now own.old before
+    ensures first { IfOk result (λ first. (before : List ℕ) → Sees fields.now own.old before
         → first ≡ first_of (twice_among before (map T.word list.now))) }
-    ensures noted { OnOk result ((before : List ℕ) → Sees others.now own.old before
-        → Sees others.now own.new (behind before (map T.word list.now))) }
+    ensures noted { OnOk result ((before : List ℕ) → Sees fields.now own.old before
+        → Sees fields.now own.new (behind before (map T.word list.now))) }
 {
     let mut first = None;
     for named in list {
         let word = named.word();
-        let other = is_noted(others, word.code);
+        let other = fields.has(word.code);
         let new = note(own, word.code)?;
         first = earlier(first, fault_if(is_again(new, other), 6, word.at));
     }

@@ -3,17 +3,15 @@ ghost use Rattle.std.specs.Prelude.{◌≡◌, [], ◌++◌, map, IfOk};
 ghost use Rattle.std.specs.List.{flat_map};
 ghost use Rattle.kat_grammar.specs.declared.phrases.Operation.{Operation};
 ghost use Rattle.kat_grammar.specs.declared.phrases.Query.{Query};
-ghost use Rattle.kat_judging.specs.Faults.{colon_of, faults_of, field_codes, first_families, first_of, operation_faults, query_faults, twice_among};
-ghost use Rattle.kat_judging.specs.Seen.{HasCodes};
+ghost use Rattle.kat_judging.specs.Faults.{colon_of, faults_of, first_families, first_of, operation_faults, query_faults, twice_among};
 
 use crate::ranks::{elements_fault, families, match_fault};
-use kat_grammar::{Assignment, Operation, Query, State, TypeText};
+use kat_grammar::{Assignment, Operation, Query, TypeText};
 use kat_judging::{
-    Family, Fault, assignments_fault, earlier, field_names, first_again, no_names, params_fault,
+    Family, Fault, FieldIndex, assignments_fault, earlier, first_again, no_names, params_fault,
     query_fault, states_fault,
 };
 use std::alloc::{AllocError, Global};
-use std::collections::BTreeSet;
 
 /// The colon before the assignments.
 fn colon_of(assignments: &[Assignment]) -> usize
@@ -28,18 +26,16 @@ fn colon_of(assignments: &[Assignment]) -> usize
 /// The first fault of an operation, if the first one's rank has elements of these kinds.
 fn operation_fault(
     alloc: Global,
-    states: &[State],
-    names: &BTreeSet<u128>,
+    states: &FieldIndex,
     families: &[Option<Family>],
     operation: &Operation,
 ) -> Result<Option<Fault>, AllocError>
-    requires { HasCodes names.now (field_codes states.now) }
     ensures { IfOk result (λ fault. fault ≡ first_of (operation_faults states.now families.now operation.now)) }
 {
     let params = operation.params.as_slice();
     let rank = operation.rank.as_slice();
     let assignments = operation.assignments.as_slice();
-    let named = params_fault(alloc, states, names, params)?;
+    let named = params_fault(alloc, states, params)?;
     let elements = elements_fault(params, rank);
     let matched = match_fault(families, params, rank, colon_of(assignments));
     let assigned = assignments_fault(alloc, states, params, assignments)?;
@@ -62,18 +58,16 @@ fn first_families(
 /// The first fault of operations.
 fn operations_fault(
     alloc: Global,
-    states: &[State],
-    names: &BTreeSet<u128>,
+    states: &FieldIndex,
     operations: &[Operation],
 ) -> Result<Option<Fault>, AllocError>
-    requires { HasCodes names.now (field_codes states.now) }
     ensures { IfOk result (λ fault. fault ≡ first_of (flat_map
         (operation_faults states.now (first_families operations.now)) operations.now)) }
 {
     let families = first_families(alloc, operations)?;
     let mut first = None;
     for operation in operations {
-        let fault = operation_fault(alloc, states, names, families.as_slice(), operation)?;
+        let fault = operation_fault(alloc, states, families.as_slice(), operation)?;
         first = earlier(first, fault);
     }
     Ok(first)
@@ -82,16 +76,14 @@ fn operations_fault(
 /// The first fault of queries.
 fn queries_fault(
     alloc: Global,
-    states: &[State],
-    names: &BTreeSet<u128>,
+    states: &FieldIndex,
     queries: &[Query],
 ) -> Result<Option<Fault>, AllocError>
-    requires { HasCodes names.now (field_codes states.now) }
     ensures { IfOk result (λ fault. fault ≡ first_of (flat_map (query_faults states.now) queries.now)) }
 {
     let mut first = None;
     for query in queries {
-        let fault = query_fault(alloc, states, names, query)?;
+        let fault = query_fault(alloc, states, query)?;
         first = earlier(first, fault);
     }
     Ok(first)
@@ -106,7 +98,7 @@ fn item_names_fault(
     ensures { IfOk result (λ fault. fault ≡ first_of (twice_among [] (map (λ (o : Operation). o.name) operations.now
         ++ map (λ (q : Query). q.name) queries.now))) }
 {
-    let none = no_names(alloc);
+    let none = FieldIndex::new(alloc, &[])?;
     let mut names = no_names(alloc);
     let operation = first_again(&none, &mut names, operations)?;
     let query = first_again(&none, &mut names, queries)?;
@@ -117,13 +109,12 @@ fn item_names_fault(
 pub(crate) fn type_fault(alloc: Global, text: &TypeText) -> Result<Option<Fault>, AllocError>
     ensures { IfOk result (λ fault. fault ≡ first_of (faults_of text.now)) }
 {
-    let states = text.states.as_slice();
+    let states = FieldIndex::new(alloc, text.states.as_slice())?;
     let operations = text.operations.as_slice();
     let queries = text.queries.as_slice();
-    let names = field_names(alloc, states)?;
-    let fields = states_fault(alloc, states)?;
+    let fields = states_fault(alloc, text.states.as_slice())?;
     let items = item_names_fault(alloc, operations, queries)?;
-    let operation = operations_fault(alloc, states, &names, operations)?;
-    let query = queries_fault(alloc, states, &names, queries)?;
+    let operation = operations_fault(alloc, &states, operations)?;
+    let query = queries_fault(alloc, &states, queries)?;
     Ok(earlier(earlier(earlier(fields, items), operation), query))
 }

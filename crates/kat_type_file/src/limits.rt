@@ -1,5 +1,5 @@
 //! The limits of a type.
-ghost use Rattle.std.specs.Prelude.{◌≡◌, ◌+◌, ◌≤◌, ℕ, drop, min, max, if◌then◌else◌};
+ghost use Rattle.std.specs.Prelude.{◌≡◌, ◌+◌, ◌≤◌, ℕ, drop, min, max, if◌then◌else◌, IfOk};
 ghost use Rattle.std.specs.List.{flat_map};
 ghost use Rattle.kat_grammar.specs.Phrases.{form_of};
 ghost use Rattle.kat_grammar.specs.Phrases.Form.{word as a_word};
@@ -16,10 +16,11 @@ use kat_grammar::{
     Act, Assignment, Operation, Operator, Parameter, Phrase, Query, State, TypeText, Word,
 };
 use kat_judging::{
-    Fault, Found, constant_sort, constant_start, earlier, fault_if, first_named, operator_found,
-    table_found, two_found, word_found,
+    Fault, FieldIndex, Found, constant_sort, constant_start, earlier, fault_if, first_named,
+    operator_found, table_found, two_found, word_found,
 };
 use kat_num::Sort;
+use std::alloc::{AllocError, Global};
 
 /// How many fields there are at most.
 const FIELDS: usize = 16;
@@ -97,7 +98,7 @@ fn is_number(found: Found) -> bool
 }
 
 /// Weighs an expression.
-fn weigh(states: &[State], params: &[Parameter], phrase: &Phrase) -> Weighed
+fn weigh(states: &FieldIndex, params: &[Parameter], phrase: &Phrase) -> Weighed
     ensures found { result.found ≡ found_of (scope_of states.now params.now) (form_of phrase.now) }
     ensures weight { result.weight ≡ min 2 (weight_of (scope_of states.now params.now) (form_of phrase.now)) }
 {
@@ -132,12 +133,12 @@ fn weigh(states: &[State], params: &[Parameter], phrase: &Phrase) -> Weighed
 }
 
 /// A word: a field counts 1, a parameter nothing.
-fn weigh_word(states: &[State], params: &[Parameter], word: Word) -> Weighed
+fn weigh_word(states: &FieldIndex, params: &[Parameter], word: Word) -> Weighed
     ensures found { result.found ≡ found_of (scope_of states.now params.now) (a_word word) }
     ensures weight { result.weight ≡ weight_of (scope_of states.now params.now) (a_word word) }
 {
     let param = first_named(params, word.code);
-    let found = word_found(param, first_named(states, word.code));
+    let found = word_found(param, states.named(word.code));
     let weight = match param {
         Some(_) => 0,
         None => u8::from(is_number(found)),
@@ -146,12 +147,12 @@ fn weigh_word(states: &[State], params: &[Parameter], word: Word) -> Weighed
 }
 
 /// A table's value counts 1.
-fn weigh_entry(states: &[State], table: Word) -> Weighed
+fn weigh_entry(states: &FieldIndex, table: Word) -> Weighed
     ensures found { result.found ≡ table_found (first_named (λ (s : State). s.name.code) table.code states.now) }
     ensures weight { result.weight ≡ if is_number (table_found (first_named (λ (s : State). s.name.code) table.code states.now)) then 1
         else 0 }
 {
-    let found = table_found(first_named(states, table.code));
+    let found = table_found(states.named(table.code));
     Weighed {
         found,
         weight: u8::from(is_number(found)),
@@ -210,7 +211,7 @@ fn phrase_start(phrase: &Phrase) -> usize
 }
 
 /// The fault of a right side that weighs too much.
-fn right_weight_fault(states: &[State], params: &[Parameter], right: &Phrase) -> Option<Fault>
+fn right_weight_fault(states: &FieldIndex, params: &[Parameter], right: &Phrase) -> Option<Fault>
     ensures { result ≡ first_of (right_weight_faults (scope_of states.now params.now) (form_of right.now)) }
 {
     let weighed = weigh(states, params, right);
@@ -218,7 +219,7 @@ fn right_weight_fault(states: &[State], params: &[Parameter], right: &Phrase) ->
 }
 
 /// The fault of an assignment whose right side weighs too much.
-fn weight_fault(states: &[State], params: &[Parameter], assignment: &Assignment) -> Option<Fault>
+fn weight_fault(states: &FieldIndex, params: &[Parameter], assignment: &Assignment) -> Option<Fault>
     ensures { result ≡ first_of (weight_faults (scope_of states.now params.now) assignment.now) }
 {
     match &assignment.act {
@@ -229,7 +230,7 @@ fn weight_fault(states: &[State], params: &[Parameter], assignment: &Assignment)
 
 /// The first right side that weighs too much.
 fn weights_fault(
-    states: &[State],
+    states: &FieldIndex,
     params: &[Parameter],
     assignments: &[Assignment],
 ) -> Option<Fault>
@@ -244,7 +245,7 @@ fn weights_fault(
 
 /// The first limit that an operation passes.
 #[tactic(auto, using(kat_judging::proofs::Firsts::first_append))]
-fn operation_limit(states: &[State], operation: &Operation) -> Option<Fault>
+fn operation_limit(states: &FieldIndex, operation: &Operation) -> Option<Fault>
     ensures { result ≡ first_of (operation_limits states.now operation.now) }
 {
     let params = operation.params.as_slice();
@@ -255,7 +256,7 @@ fn operation_limit(states: &[State], operation: &Operation) -> Option<Fault>
 }
 
 /// The first limit that an operation passes, of all.
-fn operations_limit(states: &[State], operations: &[Operation]) -> Option<Fault>
+fn operations_limit(states: &FieldIndex, operations: &[Operation]) -> Option<Fault>
     ensures { result ≡ first_of (flat_map (operation_limits states.now) operations.now) }
 {
     let mut first = None;
@@ -277,16 +278,16 @@ fn queries_limit(queries: &[Query]) -> Option<Fault>
 }
 
 /// The first limit that a type passes.
-pub(crate) fn limits_fault(text: &TypeText) -> Option<Fault>
-    ensures { result ≡ first_of (limits_of text.now) }
+pub(crate) fn limits_fault(alloc: Global, text: &TypeText) -> Result<Option<Fault>, AllocError>
+    ensures { IfOk result (λ fault. fault ≡ first_of (limits_of text.now)) }
 {
-    let states = text.states.as_slice();
+    let states = FieldIndex::new(alloc, text.states.as_slice())?;
     let operations = text.operations.as_slice();
     let queries = text.queries.as_slice();
-    let fields = past(states, FIELDS);
+    let fields = past(text.states.as_slice(), FIELDS);
     let operation = past(operations, ITEMS);
     let query = past(queries, ITEMS);
     let lines = earlier(earlier(fields, operation), query);
-    let behind = earlier(lines, operations_limit(states, operations));
-    earlier(behind, queries_limit(queries))
+    let behind = earlier(lines, operations_limit(&states, operations));
+    Ok(earlier(behind, queries_limit(queries)))
 }

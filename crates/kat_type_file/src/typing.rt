@@ -19,7 +19,7 @@ fn first_refusal(alloc: Global, text: &TypeText) -> Result<Option<Fault>, AllocE
 {
     match type_fault(alloc, text)? {
         Some(fault) => Ok(Some(fault)),
-        None => Ok(limits_fault(text)),
+        None => limits_fault(alloc, text),
     }
 }
 

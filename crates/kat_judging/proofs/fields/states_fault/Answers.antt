@@ -7,6 +7,6 @@ use Rattle.kat_judging.proofs.fields.states_fault.Goals as goal
 
 pub returns : goal.returns
 returns c =
-    c.earlier.ensures ∙ ap (λ f. earlier f c.starts_fault.result) (c.in_ok-twice.ensures.first [] (sees_nothing _ _ c.no_names-none.ensures c.no_names-names.ensures))
+    c.earlier.ensures ∙ ap (λ f. earlier f c.starts_fault.result) (c.in_ok-twice.ensures.first [] (sees_nothing c.in_ok-none.none c.no_names-names.result c.in_ok-none.ensures c.no_names-names.ensures))
     ∙ ap (λ f. earlier (first_of (twice_among [] (map (λ s. s.name) c.args.states.now))) f) c.starts_fault.ensures
     ∙ sym (first_append (twice_among [] (map (λ s. s.name) c.args.states.now)) (flat_map start_faults c.args.states.now))
